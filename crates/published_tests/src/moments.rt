@@ -69,8 +69,7 @@ fn sees_each<R: Wait>(rt: &R, alloc: Global, publisher: &mut Publisher, pass: Pa
 fn a_look_stands_at_its_moment(rt: HostRuntime) -> Result<(), Fail> {
     let alloc = rt.alloc();
     let registry = opened_for_a_time(alloc).ok_or("nothing is opened")?;
-    let (mut publisher, mut passes) =
-        make(&rt, alloc, registry, 1).ok().ok_or("nothing is made")?;
+    let (mut publisher, mut passes) = make(&rt, alloc, registry, 1).ok().ok_or("nothing is made")?;
     let seen = match passes.pop() {
         Some(pass) => sees_each(&rt, alloc, &mut publisher, pass),
         None => false,

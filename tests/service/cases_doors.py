@@ -1,0 +1,194 @@
+"""The sockets: who may connect, and where a driver does not start."""
+
+import os
+import socket
+import stat
+import sys
+
+import aeron_policyd
+from harness import ALLOW, HERE, LeftOut, need, said, same
+from raw import Peer
+
+ENTER = """
+import socket, sys
+peer = socket.socket(socket.AF_UNIX, socket.SOCK_STREAM)
+peer.settimeout(5)
+try:
+    peer.connect(sys.argv[1])
+    print("in" if peer.recv(64)[4:6] == b"\\x01\\x01" else "refused")
+except PermissionError:
+    print("denied by the system")
+"""
+
+
+def enters(room, user, group, path):
+    """What another user meets at a socket."""
+    status, out, err = room.run(
+        "setpriv", "--reuid=%d" % user, "--regid=%d" % group, "--clear-groups", sys.executable, "-c", ENTER, path
+    )
+    need(status == 0, err)
+    return out.strip()
+
+
+def case_the_system_says_who_may_connect(room):
+    if os.getuid() != 0:
+        raise LeftOut("only root can act as other users")
+    status, _, err = room.run("setpriv", "--reuid=61001", "--regid=61001", "--clear-groups", sys.executable, "-c", "pass")
+    if status != 0:
+        raise LeftOut("no other user can be acted as: " + err.strip())
+    os.chmod(room.path, 0o755)
+    room.serve(doors=("p1=61001", "p2=61002:62002", "p3"))
+    inside, outside = "in", "denied by the system"
+    for user, group, name, wanted in (
+        (61001, 61001, "p1", inside),
+        (61002, 61002, "p1", outside),
+        (61003, 62002, "p1", outside),
+        (61002, 61002, "p2", inside),
+        (61003, 62002, "p2", inside),
+        (61001, 61001, "p2", outside),
+        (61003, 61003, "p2", outside),
+        (61001, 61001, "p3", outside),
+        (61001, 61001, "operator", outside),
+        (61002, 62002, "operator", outside),
+    ):
+        same("user %d of group %d at %s" % (user, group, name), wanted, enters(room, user, group, room.at(name)))
+    for name, wanted in (("p1", (0o600, 61001, 0)), ("p2", (0o660, 61002, 62002)), ("operator", (0o600, 0, 0))):
+        found = os.stat(room.at(name))
+        need(stat.S_ISSOCK(found.st_mode), name, "is no socket")
+        same("mode and owner of " + name, wanted, (stat.S_IMODE(found.st_mode), found.st_uid, found.st_gid))
+    # the program, as a user who may and as one who may not
+    os.chmod(os.path.dirname(room.policy_path), 0o755)
+    for user, wanted in ((61001, 0), (61002, 1)):
+        words = ("setpriv", "--reuid=%d" % user, "--regid=%d" % user, "--clear-groups", room.program)
+        status, _, err = room.run(*words, "stat", "--driver", room.at("p1"))
+        if "setpriv" in err:
+            room.leave_out("the program can't be run by another user where it lies: " + err.strip())
+            break
+        same("status of user %d" % user, wanted, status)
+
+
+def case_the_mode_does_not_depend_on_the_umask(room):
+    for mask in (0o000, 0o077):
+        before = os.umask(mask)
+        try:
+            folder = "%s/%o" % (room.path, mask)
+            room.serve(folder=folder)
+        finally:
+            os.umask(before)
+        for name in ("p1", "p2", "operator"):
+            found = os.stat("%s/%s.sock" % (folder, name))
+            same("mode of %s" % name, 0o600, stat.S_IMODE(found.st_mode))
+
+
+def refused(room, folder, *doors):
+    """A driver that does not start: what it says."""
+    room.policy(ALLOW)
+    words = [word for door in doors or ("p1",) for word in ("--door", door)]
+    status, out, err = room.call("serve", "--policy", room.policy_path, "--folder", folder, *words)
+    same("status", (1, ""), (status, out))
+    return err.strip().splitlines()[-1]
+
+
+def case_a_folder_where_others_may_write(room):
+    wanted = "aeron_policyd: no folder, or one where others may write"
+    for mode in (0o777, 0o1777, 0o757, 0o775):
+        folder = "%s/%o" % (room.path, mode)
+        os.mkdir(folder)
+        os.chmod(folder, mode)
+        same("a folder of mode %o" % mode, wanted, refused(room, folder))
+        same("what is left there", [], os.listdir(folder))
+    with open(room.path + "/file", "w", encoding="ascii"):
+        pass
+    same("a file", wanted, refused(room, room.path + "/file"))
+    same("no folder above", wanted, refused(room, room.path + "/none/none"))
+
+
+def case_a_second_driver_on_the_same_folder(room):
+    first = room.serve()
+    with aeron_policyd.connect(room.at("p1")) as one:
+        for doors in (("p1", "p2"), ("p3",)):
+            same("a second driver", "aeron_policyd: another driver serves there", refused(room, room.folder, *doors))
+        need(first.poll() is None, "the first one ended:", said(first.err))
+        one.keepalive()
+    with aeron_policyd.connect(room.at("p2")) as two:
+        two.keepalive()
+    same("the sockets", ["operator.sock", "p1.sock", "p2.sock"], sorted(n for n in os.listdir(room.folder) if n[0] != "."))
+
+
+def case_a_path_of_two_hundred_bytes(room):
+    folder = room.path + "/" + "f" * (190 - len(room.path))
+    os.mkdir(folder)
+    words = refused(room, folder)
+    need(words.startswith("aeron_policyd: cannot make a socket"), words)
+    same("the sockets that are left", [], [name for name in os.listdir(folder) if name.endswith(".sock")])
+    same("a client", 1, room.call("stat", "--driver", folder + "/p1.sock")[0])
+    try:
+        aeron_policyd.connect(folder + "/p1.sock")
+    except OSError as error:
+        need("too long" in str(error), error)
+    # the longest path that there may be
+    folder = room.path + "/" + "g" * (107 - len("/operator.sock") - len(room.path) - 1)
+    room.serve(doors=("p1",), folder=folder)
+    same("how long the path is", 107, len(folder + "/operator.sock"))
+    same("its clients", [], aeron_policyd.clients(folder + "/operator.sock"))
+
+
+def case_doors_that_are_none(room):
+    for door in ("p64", "p1=", "p1=x", "p1=1:", "p1=-1", "nobody=1:2:3"):
+        words = refused(room, room.path + "/t", "p2", door)
+        need(words.startswith("aeron_policyd: "), words)
+    same("what serves there", 1, room.call("stat", "--driver", room.path + "/t/p2.sock")[0])
+
+
+def case_a_socket_that_was_left_behind(room):
+    """A name that nobody serves is replaced."""
+    os.mkdir(room.folder, 0o755)
+    left = socket.socket(socket.AF_UNIX, socket.SOCK_STREAM)
+    left.bind(room.at("p1"))
+    left.close()
+    same("a client", (1, "aeron_policyd: no driver serves there\n"), room.call("stat", "--driver", room.at("p1"))[::2])
+    room.serve()
+    with Peer(room.at("p1")) as one:
+        one.enter()
+
+
+def case_a_door_that_is_named_by_its_path(room):
+    os.mkdir(room.path + "/of_p1", 0o750)
+    path = room.path + "/of_p1/bus"
+    room.serve("--mode", "640", doors=("p1=" + path, "p2"))
+    found = os.stat(path)
+    same("its mode", (True, 0o640), (stat.S_ISSOCK(found.st_mode), stat.S_IMODE(found.st_mode)))
+    with aeron_policyd.connect(path) as one, aeron_policyd.connect(room.at("p2")) as two:
+        same("who they are", (1, 2), (one.principal, two.principal))
+        reads = two.subscription("aeron:ipc", 10)
+        one.publication("aeron:ipc", 10).offer(b"by the path", wait=1.0)
+        same("what is read", [b"by the path"], [message.data for message in reads.poll(wait=1.0)])
+    same("a socket of p1 in the folder", False, os.path.exists(room.at("p1")))
+    aeron_policyd.stop(room.at("operator"))
+    same("status of the driver", 0, room.ended(room.driver, 5))
+    same("what is left", (False, True), (os.path.exists(path), os.path.isdir(room.path + "/of_p1")))
+
+
+def case_doors_by_the_names_of_principals(room):
+    names = room.path + "/names"
+    with open(names, "w", encoding="ascii") as file:
+        file.write("principal gateway 1\nprincipal desk 2\n")
+    policy = """version = 1
+default = "deny"
+
+[[rule]]
+name = "the gateway publishes"
+principal = "gateway"
+act = ["publish", "offer"]
+channel = "*"
+allow = true
+"""
+    room.serve("--names", names, policy=policy, doors=("gateway", "desk"))
+    with aeron_policyd.connect(room.at("gateway")) as one, aeron_policyd.connect(room.at("desk")) as two:
+        same("who they are", (1, 2), (one.principal, two.principal))
+        one.publication("aeron:ipc", 10)
+        try:
+            two.publication("aeron:ipc", 10)
+            need(False, "the desk publishes")
+        except aeron_policyd.Denied as denied:
+            same("the denial", "denied by default in policy 1", denied.text)

@@ -1,0 +1,341 @@
+"""How connections and drivers end, and clients that do not behave beside one that does."""
+
+import os
+import signal
+import socket
+import stat
+import struct
+import sys
+import threading
+import time
+
+import aeron_policyd
+from harness import ALLOW, HERE, Failed, need, said, same, until
+from raw import (
+    BYE,
+    DONE,
+    FRAGMENT,
+    LIST,
+    REFUSED,
+    REPLY,
+    TAKEN,
+    Over,
+    Peer,
+    code_of,
+    command,
+    mail,
+    offer,
+    poll,
+    publish,
+    record,
+    subscribe,
+    words_of,
+)
+
+SHORT = ("--setting", "client-liveness=1500000000")
+
+WAITING = """
+import sys
+sys.path.insert(0, sys.argv[2])
+from raw import Peer, poll, mail, subscribe
+peer = Peer(sys.argv[1]).enter()
+registration = peer.registered(subscribe)
+source = peer.image()
+print(peer.client, flush=True)
+while True:
+    peer.send(poll(registration, source, wait=1000) if sys.argv[3] == "poll" else mail(1000))
+    peer.answer()
+"""
+
+
+def waiting(room, request):
+    """A process that waits in the driver, and its client id."""
+    process = room.start(sys.executable, "-c", WAITING, room.at("p2"), HERE, request)
+    until("a process that waits", lambda: said(process.out).strip() or process.poll() is not None)
+    need(process.poll() is None, said(process.err))
+    time.sleep(0.1)
+    return process
+
+
+def case_a_client_is_killed_in_a_wait(room):
+    """Its place is free within a tenth of a second. A busy machine may take longer now and then, so most have to be."""
+    room.serve("--each", "1")
+    times = []
+    with Peer(room.at("p1")) as one:
+        one.enter()
+        one.registered(publish)
+        for request in ("poll", "mail", "poll", "mail", "poll"):
+            process = waiting(room, request)
+            same("another client of p2", [(BYE, 1003, "full")], told(room.at("p2")))
+            process.send_signal(signal.SIGKILL)
+            process.wait()
+            begun = time.monotonic()
+            until("a place for another client", lambda: told(room.at("p2")) == [])
+            times.append(int((time.monotonic() - begun) * 1000))
+            until("no client of p2", lambda: len(room.clients()) == 1)
+    need(sorted(times)[2] < 100 and max(times) < 700, "a place is free after so many ms:", times)
+    until("no client", lambda: room.clients() == [])
+
+
+def told(path):
+    """What comes in place of WELCOME."""
+    with Peer(path) as peer:
+        kind, body = peer.receive()
+        return [(kind, code_of(body), words_of(body))] if kind == BYE else []
+
+
+def case_a_driver_is_killed(room):
+    """Its clients end with a word, and a new driver takes the sockets over."""
+    first = room.serve()
+    reader = room.start(room.program, "subscribe", "--driver", room.at("p2"), "aeron:ipc", "10")
+    os.mkfifo(room.path + "/lines")
+    # a reader's end is kept, so that this end can be opened
+    held = os.open(room.path + "/lines", os.O_RDWR)
+    writer = room.start(room.program, "publish", "--driver", room.at("p1"), "aeron:ipc", "10", stdin=held)
+    os.write(held, b"one\n")
+    until("a line", lambda: said(reader.out) == "one\n")
+    with aeron_policyd.connect(room.at("p1")) as driver:
+        subscription = driver.subscription("aeron:ipc", 10)
+        ends = []
+
+        def wait():
+            try:
+                while True:
+                    subscription.poll(wait=1.0)
+            except aeron_policyd.Ended as end:
+                ends.append(end)
+
+        thread = threading.Thread(target=wait)
+        thread.start()
+        time.sleep(0.2)
+        first.kill()
+        first.wait()
+        thread.join(5)
+        need(len(ends) == 1 and ends[0].code is None and str(ends[0]), "the client in Python ends with", ends)
+    for process in (reader, writer):
+        same("status", 1, room.ended(process, 5))
+        need(said(process.err).strip().splitlines()[-1].startswith("aeron_policyd: "), "no word in", said(process.err))
+    os.close(held)
+    need(os.path.exists(room.at("p1")), "the sockets of a killed driver are left behind")
+    room.serve()
+    with aeron_policyd.connect(room.at("p1")) as one, aeron_policyd.connect(room.at("p2")) as two:
+        reads = two.subscription("aeron:ipc", 10)
+        one.publication("aeron:ipc", 10).offer(b"again", wait=1.0)
+        same("what the next driver carries", [b"again"], [message.data for message in reads.poll(wait=1.0)])
+
+
+def case_a_driver_stops(room):
+    driver = room.serve()
+    reader = room.start(room.program, "subscribe", "--driver", room.at("p2"), "aeron:ipc", "10")
+    until("a client", lambda: len(room.clients()) == 1)
+    with Peer(room.at("p1")) as one, Peer(room.at("p1")) as other:
+        one.enter(), other.enter()
+        other.send(mail(1000))
+        status, _, err = room.call("stop", "--driver", room.at("operator"))
+        same("status of stop", (0, ""), (status, err))
+        for peer in (one, other):
+            last = peer.rest()[-1:]
+            same("the last word", [(BYE, 1010, "stopped")], [(kind, code_of(body), words_of(body)) for kind, body in last])
+    same("status of the driver", 0, room.ended(driver, 5))
+    same("status of the subscriber", 1, room.ended(reader, 5))
+    for name in ("p1", "p2", "operator"):
+        need(not os.path.exists(room.at(name)), name, "is left")
+    status, _, err = room.call("stop", "--driver", room.at("operator"))
+    same("another stop", (1, "aeron_policyd: no driver serves there\n"), (status, err))
+
+
+TERMINATE = """version = 1
+default = "allow"
+
+[[rule]]
+name = "p1 alone ends the driver"
+principal = "p2"
+act = "terminate"
+channel = "*"
+allow = false
+"""
+
+
+def case_a_client_ends_the_driver(room):
+    driver = room.serve(policy=TERMINATE)
+    with aeron_policyd.connect(room.at("p1")) as one, aeron_policyd.connect(room.at("p2")) as two:
+        try:
+            two.terminate()
+            raise Failed("p2 ends the driver")
+        except aeron_policyd.Denied as denied:
+            same("the denial", "denied by rule 1 in policy 1", denied.text)
+        two.keepalive()
+        one.terminate()
+        same("status of the driver", 0, room.ended(driver, 5))
+        try:
+            while True:
+                two.keepalive()
+                time.sleep(0.01)
+        except aeron_policyd.Ended as end:
+            same("what the other client is told", (1010, "stopped"), (end.code, end.text))
+    need(not os.path.exists(room.at("p1")), "a socket is left")
+
+
+def case_a_silent_client_is_let_go(room):
+    room.serve(*SHORT)
+    with Peer(room.at("p1")) as silent, Peer(room.at("p2")) as alive, Peer(room.at("p2")) as heard:
+        silent.enter(), alive.enter(), heard.enter()
+        same("the liveness", 1_500_000_000, silent.liveness)
+        silent.registered(subscribe)
+        publication = alive.registered(publish)
+        same("an offer", TAKEN, alive.ask(offer(publication, b"x", wait=1000))[0][0])
+        begun = time.monotonic()
+        while time.monotonic() - begun < 2.5:
+            # any request is a sign of life
+            alive.ask(mail())
+            heard.ask(record(LIST))
+            time.sleep(0.3)
+        last = silent.rest()
+        same("what it is told", [(BYE, 1004, "client gone")], [(kind, code_of(body), words_of(body)) for kind, body in last])
+        ((kind, body),) = alive.ask(offer(publication, b"x"))
+        same("an offer, as its subscription is gone", (REFUSED, -1), (kind, code_of(body)))
+        same("how many clients are left", 2, len(room.clients()))
+
+
+def case_one_that_sends_and_never_reads(room):
+    room.serve(*SHORT)
+    with Peer(room.at("p1"), timeout=0.2) as deaf, Peer(room.at("p2")) as other:
+        deaf.enter()
+        other.enter()
+        sent = 0
+        try:
+            while True:
+                sent += deaf.socket.send(record(LIST) * 1000)
+        except socket.timeout:
+            pass
+        need(sent > 100_000, "it sent", sent, "bytes")
+        subscription, publication = other.registered(subscribe, 20), other.registered(publish, 20)
+        source = other.image()
+        begun, count, slowest = time.monotonic(), 0, 0.0
+        while time.monotonic() - begun < 3 or count < 100:
+            at = time.monotonic()
+            same("an offer beside it", TAKEN, other.ask(offer(publication, b"x"))[0][0])
+            same("a poll beside it", [FRAGMENT, DONE], [kind for kind, _ in other.ask(poll(subscription, source))])
+            slowest = max(slowest, time.monotonic() - at)
+            count += 1
+            need(time.monotonic() - begun < 30, "only", count, "rounds")
+        need(slowest < 1, "a round beside it took", slowest)
+        until("it is gone", lambda: len(room.clients()) == 1)
+        deaf.socket.settimeout(5)
+        answers = []
+        try:
+            answers = deaf.rest()
+        except Over:
+            # what the driver could not write may be half a record
+            pass
+        need(BYE not in [kind for kind, _ in answers[:-1]], "something after BYE")
+
+
+def images_of(peer, count):
+    """The sources of its subscriptions, by registration, once there are so many."""
+    sources = {}
+
+    def look(replies):
+        for reply in replies:
+            if reply[:2] == b"\x02\x0f":
+                source, of = struct.unpack_from("<QQ", reply, 4)
+                sources[of] = source
+        return len(sources) == count
+
+    look(peer.others)
+    until("the images", lambda: look(peer.replies(100)))
+    return sources
+
+
+def case_one_that_subscribes_and_never_polls(room):
+    """It holds up the publishers of its stream, and nobody else; they go on when it is gone."""
+    room.serve()
+    with Peer(room.at("p1")) as lazy, Peer(room.at("p2")) as other, Peer(room.at("p2")) as publisher:
+        lazy.enter(), other.enter(), publisher.enter()
+        lazy.registered(subscribe, 10)
+        held, free = publisher.registered(publish, 10), publisher.registered(publish, 20)
+        reads, subscription = other.registered(subscribe, 10), other.registered(subscribe, 20)
+        sources = images_of(other, 2)
+        refusals = 0
+        for _ in range(60):
+            ((kind, body),) = publisher.ask(offer(held, b"x" * 1000, seen=refusals))
+            other.ask(poll(reads, sources[reads]))
+            if kind == REFUSED:
+                same("the refusal", -2, code_of(body))
+                refusals += 1
+        need(refusals > 5, "no back pressure by one that never polls")
+        for _ in range(200):
+            same("another stream", TAKEN, publisher.ask(offer(free, b"x" * 1000, seen=refusals))[0][0])
+            same("its reader", [FRAGMENT, DONE], [kind for kind, _ in other.ask(poll(subscription, sources[subscription]))])
+        same("the lazy one is there", DONE, lazy.ask(mail())[-1][0])
+        ((kind, body),) = publisher.ask(offer(held, b"x", seen=refusals, wait=300))
+        same("still held up", (REFUSED, -2), (kind, code_of(body)))
+        lazy.close()
+        same("its stream goes on", TAKEN, publisher.ask(offer(held, b"x", seen=refusals + 1, wait=1000))[0][0])
+
+
+def case_what_was_sent_before_the_end_is_done(room):
+    """A client may send and close: its offers are in the log all the same."""
+    room.serve("--setting", "linger=300000000")
+    with Peer(room.at("p2")) as two:
+        two.enter()
+        subscription = two.registered(subscribe)
+        with Peer(room.at("p1")) as one:
+            one.enter()
+            publication = one.registered(publish)
+            source = two.image()
+            one.send(b"".join(offer(publication, b"%d" % number) for number in range(100)))
+            one.socket.shutdown(socket.SHUT_WR)
+            same("the answers", [TAKEN] * 100, [kind for kind, _ in one.rest()])
+        got = []
+        until("what it sent", lambda: got.extend(
+            body[12:] for kind, body in two.ask(poll(subscription, source, wait=100)) if kind == FRAGMENT) or len(got) == 100)
+        same("what is read", [b"%d" % number for number in range(100)], got)
+        until("the log goes with its client", lambda: any(reply[:2] == b"\x05\x0f" for reply in two.replies(200)))
+
+
+def ask_for_errors(peer, count):
+    """Gives so many commands that are answered by an error each, and takes no mail."""
+    done = 0
+    while done < count:
+        ((kind, body),) = peer.ask(command(2, peer.client, 1 + done, struct.pack("<Q", 1)))
+        if kind == DONE:
+            done += 1
+        else:
+            same("the refusal", (1008, "queue full"), (code_of(body), words_of(body)))
+            time.sleep(0.001)
+
+
+def case_mail_that_nobody_took(room):
+    """What a client left in its ring of replies takes no reply from the next one."""
+    room.serve()
+    for _ in range(3):
+        leaving = [Peer(room.at("p1")).enter() for _ in range(4)]
+        for peer in leaving:
+            ask_for_errors(peer, 300)
+            peer.close()
+        until("no client", lambda: room.clients() == [])
+        coming = [Peer(room.at("p2")).enter() for _ in range(6)]
+        for peer in coming:
+            same("a command", DONE, peer.ask(subscribe(peer.client, 1))[0][0])
+        # the replies come before they are asked for
+        time.sleep(0.2)
+        for peer in coming:
+            same("a reply, and how many were lost", [(REPLY, 0), (DONE, 1)],
+                 [(kind, struct.unpack_from("<I", body)[0]) for kind, body in peer.ask(mail(500))])
+            peer.close()
+        until("no client", lambda: room.clients() == [])
+
+
+def case_replies_that_find_no_room_are_counted(room):
+    room.serve()
+    with Peer(room.at("p1")) as one, Peer(room.at("p2")) as two:
+        one.enter(), two.enter()
+        ask_for_errors(one, 300)
+        # once the driver has taken all of them
+        two.registered(subscribe)
+        first = one.ask(mail(1000))
+        same("how many are kept, and lost before them", (256, 0), (len(first) - 1, struct.unpack_from("<Q", first[0][1])[0]))
+        one.send(subscribe(one.client, 301) + mail(1000))
+        answers = one.answer() + one.answer()
+        same("how many were lost", (REPLY, 44), (answers[1][0], struct.unpack_from("<Q", answers[1][1])[0]))

@@ -1,0 +1,91 @@
+"""Many clients: at once, and one after another."""
+
+import time
+
+from harness import descriptors, kilobytes, need, same, threads, until
+from raw import BYE, DONE, FRAGMENT, TAKEN, Peer, code_of, mail, offer, poll, publish, subscribe, words_of
+
+
+def told(path):
+    """What a client is told first."""
+    with Peer(path) as peer:
+        kind, body = peer.receive()
+        return (kind, code_of(body), words_of(body)) if kind == BYE else (kind,)
+
+
+def case_sixty_four_clients_and_one_more(room):
+    driver = room.serve("--each", "64")
+    before = descriptors(driver.pid)
+    peers = [Peer(room.at("p%d" % (1 + number % 2))).enter() for number in range(64)]
+    need(len({peer.client for peer in peers}) == 64, "two clients of one id")
+    for _ in range(3):
+        for door in ("p1", "p2"):
+            same("one more", (BYE, 1003, "full"), told(room.at(door)))
+    same("how many clients there are", 64, len(room.clients()))
+    # all of them are served
+    publications = [peer.registered(publish, 100 + number) for number, peer in enumerate(peers[:32])]
+    for number, peer in enumerate(peers[32:]):
+        subscription, source = peer.registered(subscribe, 100 + number), None
+        source = peer.image()
+        message = b"to %d" % number
+        same("an offer", TAKEN, peers[number].ask(offer(publications[number], message, wait=1000))[0][0])
+        answer = peer.ask(poll(subscription, source, wait=1000))
+        same("what is read", [message], [body[12:] for kind, body in answer if kind == FRAGMENT])
+    # one goes, and the next one comes in
+    peers.pop().close()
+    until("a place", lambda: told(room.at("p1"))[0] != BYE, 2)
+    until("63 clients", lambda: len(room.clients()) == 63)
+    last = Peer(room.at("p1")).enter()
+    same("one more again", (BYE, 1003, "full"), told(room.at("p2")))
+    for peer in peers + [last]:
+        peer.close()
+    until("no client", lambda: room.clients() == [])
+    until("no descriptor is left", lambda: descriptors(driver.pid) <= before)
+
+
+def case_no_principal_takes_the_places_of_another(room):
+    room.serve("--each", "3")
+    ones = [Peer(room.at("p1")).enter() for _ in range(3)]
+    same("one more of p1", (BYE, 1003, "full"), told(room.at("p1")))
+    twos = [Peer(room.at("p2")).enter() for _ in range(3)]
+    same("one more of p2", (BYE, 1003, "full"), told(room.at("p2")))
+    for peer in ones + twos:
+        same("a client that is there", DONE, peer.ask(mail())[-1][0])
+        peer.close()
+    until("a place", lambda: told(room.at("p1"))[0] != BYE, 2)
+
+
+def case_ten_thousand_connections_one_after_another(room):
+    """Neither memory nor descriptors nor threads grow, and a client that stays is served all the while."""
+    driver = room.serve()
+    with Peer(room.at("p2")) as stays:
+        stays.enter()
+        subscription, publication = stays.registered(subscribe), stays.registered(publish)
+        source = stays.image()
+
+        def connect(count, upto):
+            for number in range(count):
+                with Peer(room.at("p1")) as peer:
+                    peer.enter()
+                    if number % 50 == 0:
+                        peer.registered(subscribe, 20 + number % 7)
+                if number % 500 == 0:
+                    same("an offer beside them", TAKEN, stays.ask(offer(publication, b"x"))[0][0])
+                    same("a poll beside them", [FRAGMENT, DONE], [kind for kind, _ in stays.ask(poll(subscription, source))])
+                if time.monotonic() > upto:
+                    return number + 1
+            return count
+
+        begun = time.monotonic()
+        connect(1000, begun + 40)
+        until("one client", lambda: len(room.clients()) == 1)
+        memory, files, tasks = kilobytes(driver.pid), descriptors(driver.pid), threads(driver.pid)
+        done = connect(9000, begun + 50)
+        until("one client", lambda: len(room.clients()) == 1)
+        until("no descriptor more", lambda: descriptors(driver.pid) <= files)
+        until("no thread more", lambda: threads(driver.pid) <= tasks)
+        grown = kilobytes(driver.pid) - memory
+        # a leak of one page a connection would be 36,000 KB
+        need(grown < 2000, "memory grew by", grown, "KB")
+        if done < 9000:
+            room.leave_out("%d of 10,000 connections, since the machine is slow" % (9000 - done))

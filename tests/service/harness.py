@@ -1,0 +1,257 @@
+"""Runs the cases of tests/service, each in a folder of its own, and ends all that it started."""
+
+import importlib
+import os
+import re
+import shutil
+import signal
+import subprocess
+import sys
+import tempfile
+import time
+import traceback
+
+HERE = os.path.dirname(os.path.abspath(__file__))
+TOP = os.path.dirname(os.path.dirname(HERE))
+sys.path.insert(0, HERE)
+sys.path.insert(0, os.path.join(TOP, "clients", "python"))
+
+# No case takes longer, in seconds, whatever the machine does beside.
+LONGEST = 100
+
+# The files that have cases, in their order.
+FILES = ("cases_talk", "cases_python", "cases_c", "cases_records", "cases_ends", "cases_bounds", "cases_many", "cases_doors")
+
+ALLOW = 'version = 1\ndefault = "allow"\n'
+DENY = 'version = 1\ndefault = "deny"\n'
+
+
+class LeftOut(Exception):
+    """A case, or a part of one, that can't be run here."""
+
+
+class Failed(Exception):
+    """What does not hold."""
+
+
+def need(holds, *words):
+    """Ends the case where that does not hold."""
+    if not holds:
+        raise Failed(" ".join(str(word) for word in words))
+
+
+def same(what, wanted, got):
+    """Ends the case where the two differ."""
+    if wanted != got:
+        raise Failed("%s: wanted %.300r, got %.300r" % (what, wanted, got))
+
+
+def until(what, holds, seconds=10.0):
+    """Waits until that holds: what it gave, and how long it took."""
+    begun = time.monotonic()
+    while True:
+        got = holds()
+        if got:
+            return got, time.monotonic() - begun
+        if time.monotonic() - begun > seconds:
+            raise Failed("%s: not within %g s" % (what, seconds))
+        time.sleep(0.005)
+
+
+class Room:
+    """A folder of a case, with a driver that serves there, and the processes that it started."""
+
+    def __init__(self, program):
+        self.program = program
+        self.top = TOP
+        self.path = tempfile.mkdtemp(prefix="aeron_policyd-service.")
+        self.folder = self.path + "/s"
+        self.policy_path = self.path + "/policy.toml"
+        self.processes = []
+        self.driver = None
+        self.left_out = []
+        self.names = 0
+
+    # ---- processes
+
+    def start(self, *words, **more):
+        """Starts a process, whose output goes to files: the process, with the paths `out` and `err`."""
+        self.names += 1
+        out, err = ("%s/%d.%s" % (self.path, self.names, kind) for kind in ("out", "err"))
+        more.setdefault("stdin", subprocess.DEVNULL)
+        with open(out, "wb") as out_file, open(err, "wb") as err_file:
+            process = subprocess.Popen(words, stdout=out_file, stderr=err_file, **more)
+        process.out, process.err = out, err
+        self.processes.append(process)
+        return process
+
+    def call(self, *words, seconds=20, **more):
+        """Runs the program with these words to its end: status, output, errors."""
+        return self.run(self.program, *words, seconds=seconds, **more)
+
+    def run(self, *words, seconds=20, given=None, **more):
+        """Runs a process to its end: status, output, errors."""
+        if given is not None:
+            with open(self.path + "/given", "wb") as file:
+                file.write(given)
+            more["stdin"] = open(self.path + "/given", "rb")
+        process = self.start(*words, **more)
+        if given is not None:
+            more["stdin"].close()
+        status = self.ended(process, seconds)
+        return status, said(process.out), said(process.err)
+
+    def ended(self, process, seconds=20):
+        """Waits for the end of a process: its status."""
+        try:
+            return process.wait(seconds)
+        except subprocess.TimeoutExpired:
+            raise Failed("%s does not end: %s" % (" ".join(process.args[:4]), said(process.err)[-200:])) from None
+
+    def close(self):
+        """Ends what still runs, and takes the folder away."""
+        for process in reversed(self.processes):
+            if process.poll() is None:
+                process.kill()
+            process.wait()
+        shutil.rmtree(self.path, ignore_errors=True)
+
+    # ---- a driver
+
+    def policy(self, words):
+        """Writes the policy; words of a file of the repository where they end in .toml."""
+        if words.endswith(".toml"):
+            with open(os.path.join(TOP, words), encoding="ascii") as file:
+                words = file.read()
+        # readers of the file see it whole
+        with open(self.policy_path + ".new", "w", encoding="ascii") as file:
+            file.write(words)
+        os.rename(self.policy_path + ".new", self.policy_path)
+
+    def serve(self, *words, policy=ALLOW, doors=("p1", "p2"), folder=None):
+        """Starts a driver, and waits until it serves."""
+        self.policy(policy)
+        folder = folder or self.folder
+        doors = [word for door in doors for word in ("--door", door)]
+        self.driver = self.start(self.program, "serve", "--policy", self.policy_path, "--folder", folder, *doors, *words)
+        self.served(self.driver)
+        return self.driver
+
+    def served(self, driver):
+        """Waits until a driver serves, or ends the case."""
+        end = time.monotonic() + 20
+        while "serving" not in said(driver.err):
+            if driver.poll() is not None or time.monotonic() > end:
+                raise Failed("no driver: %s" % said(driver.err).strip())
+            time.sleep(0.01)
+
+    def at(self, name):
+        """The path of a socket."""
+        return "%s/%s.sock" % (self.folder, name)
+
+    def clients(self):
+        """The lines of STATUS."""
+        import aeron_policyd
+
+        return aeron_policyd.clients(self.at("operator"), timeout=5)
+
+    def leave_out(self, words):
+        """Says that a part of the case is not run."""
+        self.left_out.append(words)
+
+
+def said(path):
+    """What a process wrote."""
+    try:
+        with open(path, "rb") as file:
+            return file.read().decode("utf-8", "replace")
+    except FileNotFoundError:
+        return ""
+
+
+def kilobytes(pid):
+    """How much memory a process has resident."""
+    with open("/proc/%d/status" % pid, encoding="ascii") as lines:
+        for line in lines:
+            if line.startswith("VmRSS:"):
+                return int(line.split()[1])
+    raise Failed("no VmRSS")
+
+
+def threads(pid):
+    return len(os.listdir("/proc/%d/task" % pid))
+
+
+def descriptors(pid):
+    return len(os.listdir("/proc/%d/fd" % pid))
+
+
+def _too_long(_signal, _frame):
+    raise Failed("longer than %d s" % LONGEST)
+
+
+def run_case(case, program):
+    """Runs a case: whether all of it was left out, what went wrong if anything did, and which parts were left out."""
+    room = Room(program)
+    signal.alarm(LONGEST)
+    try:
+        case(room)
+        return False, None, room.left_out
+    except LeftOut as why:
+        return True, None, room.left_out + [str(why)]
+    except Exception as error:
+        place = traceback.extract_tb(error.__traceback__)
+        line = [step.lineno for step in place if os.path.basename(step.filename).startswith("cases")]
+        words = str(error) or type(error).__name__
+        if not isinstance(error, Failed):
+            words = "%s: %s" % (type(error).__name__, words)
+        return False, "line %s: %s" % (line[-1] if line else "?", words.replace("\n", " ")), room.left_out
+    finally:
+        signal.alarm(0)
+        room.close()
+
+
+def cases_of(names):
+    """The cases, in the order in which they stand in their files."""
+    cases = []
+    for file in FILES:
+        module = importlib.import_module(file)
+        with open(os.path.join(HERE, file + ".py"), encoding="ascii") as lines:
+            order = re.findall(r"^def (case_[a-z0-9_]+)\(", lines.read(), re.MULTILINE)
+        cases += [getattr(module, name) for name in order]
+    if not names:
+        return cases
+    return [case for case in cases if case.__name__[5:] in names]
+
+
+def main(program, names):
+    signal.signal(signal.SIGALRM, _too_long)
+    signal.signal(signal.SIGTERM, lambda *_: sys.exit(2))
+    passed = failed = 0
+    wanted = cases_of(names)
+    if not wanted:
+        print("FAILED tests/service: there is no case of that name")
+        failed += 1
+    for case in wanted:
+        begun = time.monotonic()
+        skipped, wrong, left_out = run_case(case, program)
+        name = case.__name__[5:]
+        for words in left_out:
+            print("left out%s %s: %s" % (":" if skipped else " of", name, words), flush=True)
+        if skipped:
+            continue
+        if wrong:
+            failed += 1
+            print("FAILED tests/service %s: %s" % (name, wrong), flush=True)
+        else:
+            passed += 1
+        if os.environ.get("TIMES"):
+            print("%6.2f s %s" % (time.monotonic() - begun, name), flush=True)
+    print("%d passed, %d failed" % (passed, failed))
+    return 1 if failed else 0
+
+
+if __name__ == "__main__":
+    # the cases import this file by its name
+    sys.modules["harness"] = sys.modules["__main__"]
+    sys.exit(main(sys.argv[1], sys.argv[2:]))
