@@ -4,6 +4,7 @@ use Rattle.std.specs.List.{list_any}
 use Rattle.client_registry.specs.declared.client.Client.{Client}
 use Rattle.client_registry.specs.Clients.{principal_at}
 use Rattle.policy_core.specs.Moments.{at, coming, ever, is_allowed_by_any}
+use Rattle.policy_core.specs.MomentLaws.{IsEverAllowed}
 use Rattle.policy_core.specs.Question.{Question}
 use Rattle.policy_core.specs.RuleList.{Rules}
 use Rattle.policy_core.specs.Rules.{verdict_at, verdict_of}
@@ -96,3 +97,34 @@ pub sooner_allowed : (clients : List Client) (policy : Rules) (moment later epoc
     is_ever_allowed clients (at policy moment) (coming policy moment) epoch subscription ≡ true
 sooner_allowed clients policy moment later epoch subscription up is =
     sooner_by clients policy moment later epoch subscription (principal_at clients subscription.client) refl up is
+
+-- ---- what it comes to
+
+-- the client is there, and is allowed it at some moment from this one on
+pub record EverOne (clients : List Client) (policy : Rules) (moment : ℕ) (subscription : Subscription) : Type 0 where
+  pub principal : ℕ
+  pub attached : principal_at clients subscription.client ≡ Some principal
+  pub allowed : IsEverAllowed policy moment (image_question principal subscription)
+
+pub ever_of : (clients : List Client) (policy : Rules) (moment epoch : ℕ) (subscription : Subscription) (found : Option ℕ) →
+    principal_at clients subscription.client ≡ found →
+    is_ever_allowed clients (at policy moment) (coming policy moment) epoch subscription ≡ true →
+    EverOne clients policy moment subscription
+ever_of clients policy moment epoch subscription (Some principal) there is = record {
+  principal = principal;
+  attached = there;
+  allowed = ever_sound policy moment (image_question principal subscription)
+      (ever_is clients epoch subscription principal there policy moment ∙ is);
+}
+ever_of clients policy moment epoch subscription None gone is =
+    let never : false ≡ true =
+    sym (never_is clients (at policy moment) (coming policy moment) epoch subscription gone) ∙ is in
+    absurd (cc never)
+
+pub of_ever : (clients : List Client) (policy : Rules) (moment epoch : ℕ) (subscription : Subscription) (principal : ℕ) →
+    principal_at clients subscription.client ≡ Some principal →
+    IsEverAllowed policy moment (image_question principal subscription) →
+    is_ever_allowed clients (at policy moment) (coming policy moment) epoch subscription ≡ true
+of_ever clients policy moment epoch subscription principal there some =
+    sym (ever_is clients epoch subscription principal there policy moment)
+    ∙ ever_complete policy moment (image_question principal subscription) some

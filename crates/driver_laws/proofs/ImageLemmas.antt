@@ -27,14 +27,14 @@ use Rattle.driver_laws.proofs.TurningLemmas.{rising_at}
 
 -- ---- what a map and a flat map have
 
-all_parts : {X Y : Type 0} (P : Y → Type 0) (parts : X → List Y) (xs : List X) → All (λ x. All P (parts x)) xs →
+pub all_parts : {X Y : Type 0} (P : Y → Type 0) (parts : X → List Y) (xs : List X) → All (λ x. All P (parts x)) xs →
     All P (flat_map parts xs)
 all_parts P parts [] each = All-nil P
 all_parts P parts (x ∷ xs) each =
     All-append P (parts x) (flat_map parts xs) (All-head (λ y. All P (parts y)) x xs each)
     (all_parts P parts xs (All-tail (λ y. All P (parts y)) x xs each))
 
-in_part : {X Y : Type 0} (parts : X → List Y) (xs : List X) (x : X) (y : Y) → Contains xs x → Contains (parts x) y →
+pub in_part : {X Y : Type 0} (parts : X → List Y) (xs : List X) (x : X) (y : Y) → Contains xs x → Contains (parts x) y →
     Contains (flat_map parts xs) y
 in_part parts [] x y there has = absurd (contains_none x there)
 in_part parts (z ∷ zs) x y there has =

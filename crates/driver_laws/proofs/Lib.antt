@@ -43,6 +43,7 @@ pub mod OlderNakLemmas
 pub mod OlderSendLemmas
 pub mod OwnerLemmas
 pub mod PairCountLemmas
+pub mod ProspectLemmas
 pub mod PublicationLemmas
 pub mod PublishingLemmas
 pub mod PublishingOnlyLemmas

@@ -15,12 +15,12 @@ use Rattle.driver_laws.specs.Events.{AfterAnyEvents}
 use Rattle.driver_laws.specs.ImageLaws.{IsReadBy}
 use Rattle.driver_laws.specs.Turning.{TurnsTo}
 use Rattle.client_registry.specs.Clients.{principal_at}
-use Rattle.policy_core.specs.MomentLaws.{is_before}
+use Rattle.policy_core.specs.MomentLaws.{IsEverAllowed, is_before}
 use Rattle.policy_core.specs.Moments.{steady_until}
 use Rattle.stream_registry.specs.declared.pairs.Pair.{Pair}
 use Rattle.stream_registry.specs.declared.row.Source.{Source}
 use Rattle.stream_registry.specs.declared.row.Subscription.{Subscription}
-use Rattle.stream_registry.specs.Pairs.{pair_of}
+use Rattle.stream_registry.specs.Pairs.{fits, pair_of}
 
 -- ---- which policy it is
 
@@ -72,6 +72,35 @@ abbrev pub MomentsTakeAndGiveExactly : Type 0
 MomentsTakeAndGiveExactly =
     AfterAnyEvents (λ s.
     (event : Event) (change : Change) → TurnsTo s (coming_to s event) change → TakesAndGives s (coming_to s event) change)
+
+-- ---- what is counted before it comes
+
+-- a live log and a subscription that fit, where the policy in force allows the image to the subscription's client at the registry's
+-- moment, or at a later one
+pub record IsEverReadBy (s : State) (log : Source) (subscription : Subscription) : Type 0 where
+  pub principal : ℕ
+  pub is_live : Contains s.streams.sources log
+  pub stands : Contains s.streams.subscriptions subscription
+  pub fitting : fits log subscription ≡ true
+  pub attached : principal_at s.clients.rows subscription.client ≡ Some principal
+  pub allowed : IsEverAllowed s.given s.moment (image_question principal subscription)
+
+-- a pair is of such a log and such a subscription
+pub record IsOfProspect (s : State) (pair : Pair) : Type 0 where
+  pub log : Source
+  pub subscription : Subscription
+  pub pair_is : pair ≡ pair_of log subscription
+  pub reads : IsEverReadBy s log subscription
+
+-- exactly these are counted where the limit of pairs is looked at
+pub record CountsWhatIsEverAllowed (s : State) : Type 0 where
+  pub only : (pair : Pair) → Contains (prospects_of s) pair → IsOfProspect s pair
+  pub exactly :
+      (log : Source) (subscription : Subscription) → IsEverReadBy s log subscription →
+      Contains (prospects_of s) (pair_of log subscription)
+
+abbrev pub LimitsCountWhatIsEverAllowed : Type 0
+LimitsCountWhatIsEverAllowed = AfterAnyEvents CountsWhatIsEverAllowed
 
 -- ---- what it never does
 

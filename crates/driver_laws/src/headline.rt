@@ -15,11 +15,12 @@ use crate::worlds::{
     worlds_are_served_from_the_live_log,
 };
 use crate::{
-    clients_come_exactly, clients_come_only, counters_and_terminations_are_granted_only,
-    counters_are_granted_exactly, counters_are_shown_exactly, decisions_are_by_the_policy_in_force,
-    denials_are_named, destinations_are_granted_exactly, destinations_are_granted_only,
-    endpoints_are_sent_to, images_are_granted_exactly, images_come_by_setups, logs_close_exactly,
-    logs_close_only, moments_take_and_give_exactly, newest_policy_is_in_force,
+    cached_verdicts_are_right_until_the_next_bound, clients_come_exactly, clients_come_only,
+    counters_and_terminations_are_granted_only, counters_are_granted_exactly,
+    counters_are_shown_exactly, decisions_are_by_the_policy_in_force, denials_are_named,
+    destinations_are_granted_exactly, destinations_are_granted_only, endpoints_are_sent_to,
+    images_are_granted_exactly, images_come_by_setups, limits_count_what_is_ever_allowed,
+    logs_close_exactly, logs_close_only, moments_take_and_give_exactly, newest_policy_is_in_force,
     numbers_are_never_drawn_again, policies_stand_at_their_moment,
     publications_are_granted_exactly, publications_are_granted_only, publications_are_unique,
     refused_events_take_only_what_the_moment_takes, registries_are_sound,
@@ -34,13 +35,15 @@ use driver_steps::{
 };
 use driver_world::{registries_were_newest, runs_are_of_the_driver};
 
-/// A registry decides by the policy that is in force there, as it is at the greatest moment of the registry's events.
+/// A registry decides by the policy that is in force there, as it is at the greatest moment of the registry's events; a verdict that
+/// was kept is right up to the next bound of a rule.
 pub fn by_the_policy_at_its_moment()
     ensures { ByThePolicyAtItsMoment }
 {
     newest_policy_is_in_force();
     policies_stand_at_their_moment();
     registries_stay_between_bounds();
+    cached_verdicts_are_right_until_the_next_bound();
 }
 
 /// A well-formed request is granted only and exactly where the first matching rule of the policy in force at its step, at that
@@ -203,6 +206,7 @@ pub fn a_reload_closes_exactly()
     by_the_policy_at_its_moment();
     moments_take_and_give_exactly();
     refused_events_take_only_what_the_moment_takes();
+    limits_count_what_is_ever_allowed();
     ticks_are_never_full();
     logs_close_exactly();
     logs_close_only();

@@ -22,7 +22,7 @@ ghost use Rattle.driver_laws.specs.ImageTellingLaws.{ImagesAreToldExactly};
 ghost use Rattle.driver_laws.specs.LeavingLaws.{ClientsGoExactly, ClientsGoOnly, RowsGoWithTheirClient};
 ghost use Rattle.driver_laws.specs.LimitLaws.{LimitsAreKept, RoomIsLeftBelowTheLimits};
 ghost use Rattle.driver_laws.specs.ListingLaws.{CountersAreShownExactly};
-ghost use Rattle.driver_laws.specs.MomentLaws.{MomentsTakeAndGiveExactly, PoliciesStandAtTheirMoment, RegistriesStayBetweenBounds, TicksAreNeverFull};
+ghost use Rattle.driver_laws.specs.MomentLaws.{LimitsCountWhatIsEverAllowed, MomentsTakeAndGiveExactly, PoliciesStandAtTheirMoment, RegistriesStayBetweenBounds, TicksAreNeverFull};
 ghost use Rattle.driver_laws.specs.NumberLaws.{LastNumbersNeverFall, ListsShareNoNumber, NewNumbersAreAboveTheLast, NumbersAreAtMostTheLast, NumbersAreNeverDrawnAgain, NumbersAreUnique};
 ghost use Rattle.driver_laws.specs.OwnerLaws.{RegistrationsHaveTheirLogs, RowsHaveTheirClients};
 ghost use Rattle.driver_laws.specs.PublishingLaws.{PublicationsAreGrantedExactly, PublicationsAreGrantedOnly, ImagesComeBySetups};
@@ -317,6 +317,12 @@ pub fn cached_verdicts_are_right_until_the_next_bound()
 /// allows at it and refused before, as a reload does, and under the number that the policy has.
 pub fn moments_take_and_give_exactly()
     ensures { MomentsTakeAndGiveExactly }
+{}
+
+/// The limit of pairs counts exactly those of a log and a subscription that fit and of which the policy in force allows the image to
+/// the subscription's client at the registry's moment or at a later one.
+pub fn limits_count_what_is_ever_allowed()
+    ensures { LimitsCountWhatIsEverAllowed }
 {}
 
 /// However many pairs a moment brings, they are within the limit, as are those of all later moments, since what comes is asked
