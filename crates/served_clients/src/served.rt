@@ -19,7 +19,7 @@ pub struct Served<N: DriverNaming, C: Clock, R: Wait + Drop, K: Keeper + Drop> {
     rt: R,
     alloc: Global,
     client: Client<N, C>,
-    /// What is laid out before it is answered, so that want of memory leaves no part of a record.
+    /// What is laid out before it is answered, so that no part of a record is left where memory runs out.
     scratch: Vec<u8>,
     habits: Habits<K>,
 }
