@@ -12,7 +12,7 @@ use media_driver::{ClientReply, DriverNaming, Mail};
 use service_records::Answer;
 use std::alloc::{AllocError, Global};
 
-/// The bytes of the reply that tells of want of memory.
+/// The bytes of the reply that says that memory ran out.
 fn lack(alloc: Global, correlation: u64) -> Result<Bytes, AllocError>
     ensures { IfOk result (λ bytes. bytes ≡ lack_text correlation) }
 {
