@@ -79,6 +79,22 @@ function rule(principal, act, channel, allow) {
     say("channel = \"" channel "\"")
     say("allow = " allow)
 }
+# Of version 2: a rule that stands for a time. A bound that is "" is none.
+function opens_with_moments(default_word) {
+    say("policy")
+    say("version = 2")
+    say("default = \"" default_word "\"")
+}
+function rule_for_a_time(act, channel, from, until, allow) {
+    say("[[rule]]")
+    say("name = \"for a time\"")
+    say("principal = \"*\"")
+    say("act = \"" act "\"")
+    say("channel = \"" channel "\"")
+    if (from != "") say("from = " decimal(from))
+    if (until != "") say("until = " decimal(until))
+    say("allow = " allow)
+}
 function closes() { say(".") }
 
 # ---- Commands

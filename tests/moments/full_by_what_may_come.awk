@@ -1,21 +1,10 @@
 # Images are allowed from the moment 1000 on. 512 subscriptions and eight logs have no pair before it, and 4,096 from then on, so
 # that the ninth log is full at 0 already; then no tick brings more pairs than there may be. At 1000 all come. A policy that
 # would allow a ninth log's pairs at a later moment is refused as full, and what the moment takes goes with the refusal.
-function timed(act, from, until, allow) {
-    say("[[rule]]")
-    say("name = \"for a time\"")
-    say("principal = \"*\"")
-    say("act = \"" act "\"")
-    say("channel = \"*\"")
-    if (from != "") say("from = " from)
-    if (until != "") say("until = " until)
-    say("allow = " allow)
-}
-function opens_timed(default_word) { say("policy"); say("version = 2"); say("default = \"" default_word "\"") }
 BEGIN {
-    opens_timed("allow")
-    timed("image", "", 1000, "false")
-    timed("image", 2000, "", "false")
+    opens_with_moments("allow")
+    rule_for_a_time("image", "*", "", 1000, "false")
+    rule_for_a_time("image", "*", 2000, "", "false")
     closes()
     say("attach 0 7")
     want("attached 1")
@@ -40,7 +29,7 @@ BEGIN {
         for (subscription = 1; subscription <= 512; subscription++)
             image_goes(1, 512 + log_number, subscription, 10)
     # a policy that allows them later only is full
-    opens_timed("deny"); timed("*", 5000, "", "true"); closes()
+    opens_with_moments("deny"); rule_for_a_time("*", "*", 5000, "", "true"); closes()
     want("policy refused: full")
     say("attach 2000 7")
     want("attached 2")

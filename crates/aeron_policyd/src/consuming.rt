@@ -12,7 +12,7 @@ struct Report {
     from: Address,
     /// Up to which position it has taken the stream.
     position: u64,
-    /// When it said so, in nanoseconds of the machine's clock.
+    /// When it said so, in nanoseconds of the machine's steady clock.
     at: u64,
 }
 

@@ -33,6 +33,8 @@ pub enum Fault {
     Make(MakeFault),
     #[error("{0}")]
     Start(StartFault),
+    #[error("no clock")]
+    NoClock,
     #[error("no thread")]
     NoThread,
     #[error("no client")]

@@ -39,6 +39,15 @@ impl<
         + 'static,
 > Machine for R {}
 
+/// What the machine's steady clock stands at, in nanoseconds from any beginning: by it the program measures how long something
+/// takes. 0 where it can't be read.
+pub(crate) fn ticks<C: Clock>(clock: &C) -> u64 {
+    match clock.monotonic() {
+        Ok(since) => since.as_nanos().min(u64::MAX as u128) as u64,
+        Err(_) => 0,
+    }
+}
+
 /// What the program takes of the machine for files. No thread has it but the first.
 pub(crate) trait Disk: Files + AllocGlobal + Copy + Drop {}
 

@@ -12,6 +12,7 @@ mod files;
 mod input;
 mod machine;
 mod messages;
+mod moments;
 mod one_client;
 mod options;
 mod policies;

@@ -13,7 +13,7 @@ use crate::subscribing::Subscribing;
 use crate::watched::{Notes, Watched};
 use channel_uri::Address;
 use driver_core::{Peer, Settings};
-use media_driver::{AttachFault, Driver, DriverNaming, MachineClock, Parts};
+use media_driver::{AttachFault, Driver, DriverNaming, Parts};
 use media_wire::Udp;
 use policy_core::Policy;
 use std::alloc::AllocError;
@@ -103,7 +103,7 @@ fn watched<R: Machine>(
     rt: R,
     unused: Option<Address>,
     silence: u64,
-) -> Result<(Watched<Udp<R>, MachineClock<R>>, Arc<Notes>), AllocError> {
+) -> Result<(Watched<Udp<R>, R>, Arc<Notes>), AllocError> {
     let wire = Udp::new(rt.alloc(), rt, SOCKETS)?;
     let notes = match Arc::new(rt.alloc(), Notes::new()) {
         Ok(notes) => notes,
@@ -111,8 +111,7 @@ fn watched<R: Machine>(
     };
     let theirs = Arc::try_clone(&notes)?;
     let reports = Reports::new(rt.alloc(), silence)?;
-    let clock = MachineClock::new(rt);
-    let watched = Watched::new(wire, theirs, clock, reports, unused);
+    let watched = Watched::new(wire, theirs, rt, reports, unused);
     Ok((watched, notes))
 }
 
@@ -132,8 +131,7 @@ fn started<N: DriverNaming + Send + Sync + 'static, R: Machine, F: Disk>(
             return Err(Fault::NO_MEMORY);
         }
     };
-    let clock = MachineClock::new(rt);
-    let started: Result<OwnDriver<N, R>, _> = Driver::start(rt, rt.alloc(), parts, wire, clock);
+    let started: Result<OwnDriver<N, R>, _> = Driver::start(rt, rt.alloc(), parts, wire);
     match started {
         Ok(driver) => attached(rt, files, driver, notes, work),
         Err(fault) => Err(Fault::Start(fault)),

@@ -25,7 +25,7 @@ struct Progress {
     messages: u64,
     bytes: u64,
     position: u64,
-    /// Since when the next message waits, in nanoseconds of the machine's clock, and how often it was tried.
+    /// Since when the next message waits, in nanoseconds of the machine's steady clock, and how often it was tried.
     since: Option<u64>,
     waited: u32,
 }

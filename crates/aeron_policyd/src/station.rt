@@ -3,9 +3,11 @@
 
 use crate::fault::Fault;
 use crate::files::file_bytes;
-use crate::machine::{Disk, Machine};
+use crate::machine::{Disk, Machine, ticks};
 use crate::watched::Notes;
-use media_driver::{Client, ClientReply, Clock, Driver, DriverNaming, MachineClock, ReloadFault};
+use media_driver::{
+    Client, ClientReply, Driver, DriverNaming, MachineClock, PushFault, ReloadFault,
+};
 use message_lines::Losses;
 use std::sync::Arc;
 use std::time::Duration;
@@ -47,7 +49,7 @@ pub(crate) struct Chores {
     pub(crate) liveness: u64,
 }
 
-/// When which of these is due next, in nanoseconds of the machine's clock.
+/// When which of these is due next, in nanoseconds of the machine's steady clock.
 #[derive(Clone, Copy)]
 struct Due {
     keepalive: u64,
@@ -91,7 +93,7 @@ impl<N: DriverNaming + Send + Sync + 'static, R: Machine, F: Disk> Station<N, R,
         notes: Arc<Notes>,
         chores: Chores,
     ) -> Station<N, R, F> {
-        let now = MachineClock::new(rt).now();
+        let now = ticks(&rt);
         let reload = now.saturating_add(chores.reload_every.unwrap_or(u64::MAX));
         Station {
             rt,
@@ -122,9 +124,9 @@ impl<N: DriverNaming + Send + Sync + 'static, R: Machine, F: Disk> Station<N, R,
         (driver, client)
     }
 
-    /// The machine's clock, in nanoseconds.
+    /// What the machine's steady clock stands at, in nanoseconds.
     pub(crate) fn now(&self) -> u64 {
-        MachineClock::new(self.rt).now()
+        ticks(&self.rt)
     }
 
     /// What was lost so far, with so many NAKs.
@@ -146,8 +148,12 @@ impl<N: DriverNaming + Send + Sync + 'static, R: Machine, F: Disk> Station<N, R,
     /// The client says that it is there, four times within the time that it may be silent.
     fn keep_alive(&mut self, now: u64) -> Result<(), Fault> {
         if now >= self.due.keepalive {
-            self.due.keepalive = now.saturating_add(self.chores.liveness / 4);
-            self.client.keepalive(&self.rt)?;
+            match self.client.keepalive(&self.rt) {
+                // it is tried again at the next turn
+                Err(PushFault::QueueFull) => return Ok(()),
+                Err(fault) => return Err(Fault::from(fault)),
+                Ok(_) => self.due.keepalive = now.saturating_add(self.chores.liveness / 4),
+            }
         }
         Ok(())
     }

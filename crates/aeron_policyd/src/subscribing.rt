@@ -2,7 +2,7 @@
 
 use crate::fault::Fault;
 use crate::machine::{Disk, Machine};
-use crate::station::{SECOND, Station, pause};
+use crate::station::{SECOND, Station, pause, report};
 use driver_core::Reply;
 use driver_steps::FragmentCopies;
 use media_driver::{ClientReply, DriverNaming, Elicitation, PollFault};
@@ -61,8 +61,8 @@ impl Images {
         self.rows.retain(|image| image.source != source);
     }
 
-    /// What a reply says of the streams of this subscription.
-    fn note(&mut self, alloc: Global, reply: &ClientReply, of: u64) -> Result<(), Fault> {
+    /// What a reply says of the streams of this subscription. Whether one of them is gone.
+    fn note(&mut self, alloc: Global, reply: &ClientReply, of: u64) -> Result<bool, Fault> {
         match reply {
             ClientReply::Of(
                 Reply::AvailableImage {
@@ -77,11 +77,14 @@ impl Images {
                     subscription,
                     ..
                 },
-            ) if *subscription == of => self.remove(*source),
+            ) if *subscription == of => {
+                self.remove(*source);
+                return Ok(true);
+            }
             ClientReply::Of(Reply::ClientTimeout { .. }) => return Err(Fault::Closed),
             _ => {}
         }
-        Ok(())
+        Ok(false)
     }
 
     /// Whether there was a stream, and none is left.
@@ -177,12 +180,16 @@ impl<N: DriverNaming + Send + Sync + 'static, R: Machine, F: Disk> Station<N, R,
         let _ = eprintln!(self.rt; "{received}");
     }
 
-    /// All replies that are there are taken.
+    /// All replies that are there are taken. A line says of each stream that goes that it is gone.
     fn take_replies(&mut self, images: &mut Images, subscription: u64) -> Result<(), Fault> {
         let rt = self.rt;
         for _ in rt.forever() {
             match self.next_reply() {
-                Some(reply) => images.note(rt.alloc(), &reply, subscription)?,
+                Some(reply) => {
+                    if images.note(rt.alloc(), &reply, subscription)? {
+                        report(&rt, "image gone");
+                    }
+                }
                 None => return Ok(()),
             }
         }

@@ -4,12 +4,13 @@ ghost use Rattle.media_wire.specs.Events.{Event, counted};
 ghost use Rattle.std.specs.Prelude.{◌≡◌, ◌+◌, ◌-◌, ◌^◌, List, min};
 
 use crate::consuming::Reports;
+use crate::machine::ticks;
 use channel_uri::Address;
 use frame_codec::{Datagram, Flags, Frames, Packet, Setup, StatusMessage, position};
-use media_driver::Clock;
 use media_wire::{Wire, WireFault};
 use std::sync::Arc;
 use std::sync::atomic::{AtomicU64, Ordering};
+use std::time::Clock;
 
 /// What went over a wire so far, as threads share it.
 #[derive(Drop)]
@@ -139,7 +140,7 @@ impl<C: Clock> Watch<C> {
         ) else {
             return;
         };
-        self.reports.note(from, at, self.clock.now());
+        self.reports.note(from, at, ticks(&self.clock));
         if let Some(least) = self.reports.least() {
             self.notes.consumed.store(least, Ordering::SeqCst);
         }

@@ -1,5 +1,5 @@
-// A publication learns its destinations: two subscribers join it at its control address, one falls silent, and one is denied to
-// join by a policy.
+// A publication learns its destinations: two subscribers join it at its control address, one falls silent, one is denied to join by
+// a policy, and for half a second nothing is sent to it.
 ghost use Rattle.driver_core.specs.Soundness.{IsSound};
 ghost use Rattle.published_registry.specs.Histories.{registry_of};
 ghost use Rattle.std.specs.Prelude.{◌≡◌};
@@ -51,9 +51,23 @@ channel = \"*\"
 allow = false
 ";
 
+// Under which nothing is sent to nobody's addresses from 9 s on, for half a second.
+const PAUSE: &str = "\
+version = 2
+default = \"allow\"
+[[rule]]
+name = \"nobody is sent to\"
+principal = \"nobody\"
+act = \"send\"
+channel = \"*\"
+from = 9000000000
+until = 9500000000
+allow = false
+";
+
 // The policy of the text; `None` where it is none.
-fn policy(alloc: Global) -> Option<Policy> {
-    policy_text::read(alloc, POLICY, &Names::new(alloc)).ok()
+fn policy(alloc: Global, text: &str) -> Option<Policy> {
+    policy_text::read(alloc, text, &Names::new(alloc)).ok()
 }
 
 // What a turn of the sender sends to a subscriber.
@@ -105,14 +119,40 @@ impl<N: DriverNaming> Row<N> {
     }
 
     // The policy comes into force at that moment; `None` where there is no memory for it.
-    fn reloads<R: Wait>(&mut self, rt: &R, now: u64) -> Option<()> {
-        let policy = policy(self.alloc)?;
+    fn reloads<R: Wait>(&mut self, rt: &R, now: u64, text: &str) -> Option<()> {
+        let policy = policy(self.alloc, text)?;
         self.driver.hand.push(rt, Event::Reload { now, policy });
         self.driver.conducts(rt, now);
         Some(())
     }
 
-    // What both get, turn by turn.
+    // Both make themselves known, and what they get at that moment.
+    fn joined<R: Wait>(&mut self, rt: &R, now: u64) -> [Gets; 2] {
+        self.joins(&FIRST);
+        self.joins(&SECOND);
+        self.sends(rt, now)
+    }
+
+    // The conductor has a turn at that moment, and what both get then.
+    fn conducted<R: Wait>(&mut self, rt: &R, now: u64) -> [Gets; 2] {
+        self.driver.conducts(rt, now);
+        self.joined(rt, now)
+    }
+
+    // What both get before, during and after the half second, turn by turn.
+    fn paused<R: Wait>(&mut self, rt: &R) -> Option<[[Gets; 2]; 5]> {
+        self.reloads(rt, 8_500_000_000, PAUSE)?;
+        Some([
+            self.conducted(rt, 8_999_999_999),
+            // The conductor has no turn yet.
+            self.joined(rt, 9_200_000_000),
+            self.conducted(rt, 9_200_000_000),
+            self.conducted(rt, 9_499_999_999),
+            self.conducted(rt, 9_500_000_000),
+        ])
+    }
+
+    // What both get until then, turn by turn.
     fn served<R: Wait>(&mut self, rt: &R) -> Option<[[Gets; 2]; 7]> {
         self.publishes(rt)?;
         let alone = self.sends(rt, 0);
@@ -125,7 +165,7 @@ impl<N: DriverNaming> Row<N> {
         let silent = self.sends(rt, 5_000_000_001);
         self.joins(&SECOND);
         let again = self.sends(rt, 6_000_000_000);
-        self.reloads(rt, 6_000_000_000)?;
+        self.reloads(rt, 6_000_000_000, POLICY)?;
         self.joins(&SECOND);
         let denied = self.sends(rt, 7_000_000_000);
         self.joins(&SECOND);
@@ -144,8 +184,11 @@ impl<N: DriverNaming> Row<N> {
     }
 }
 
+// What both get in all.
+type Seen = ([[Gets; 2]; 7], [[Gets; 2]; 5]);
+
 // What is seen of a driver of these parts; `None` where there is no memory.
-fn seen_of<N: DriverNaming, R: Wait>(rt: &R, alloc: Global, parts: Parts) -> Option<[[Gets; 2]; 7]>
+fn seen_of<N: DriverNaming, R: Wait>(rt: &R, alloc: Global, parts: Parts) -> Option<Seen>
     requires book { parts.publisher.book ≡ N.book }
     requires sound { IsSound (registry_of parts.publisher) }
     requires home { parts.pieces.arena.home ≡ N.home }
@@ -159,31 +202,43 @@ fn seen_of<N: DriverNaming, R: Wait>(rt: &R, alloc: Global, parts: Parts) -> Opt
         wire,
         alloc,
     };
-    let seen = row.served(rt);
+    let served = row.served(rt);
+    let paused = row.paused(rt);
     row.end(rt);
-    seen
+    Some((served?, paused?))
 }
 
 // The same of a driver of its own.
-fn shown<R: Wait>(rt: &R, alloc: Global) -> Option<[[Gets; 2]; 7]> {
+fn shown<R: Wait>(rt: &R, alloc: Global) -> Option<Seen> {
     let parts = Parts::make(rt, alloc, Settings::default())?;
     seen_of::<Brand, R>(rt, alloc, parts)
 }
 
 // Before anybody joins nobody gets the SETUP that is cut. Both get the next, since they asked for one, and again 5 s later, which
-// is the timeout. A nanosecond later the second is forgotten. It joins again; and once nobody may join it gets nothing more.
+// is the timeout. A nanosecond later the second is forgotten. It joins again; and once nobody may join it gets nothing more. Once it
+// may, what it gets is decided at the moment of the newest registry: until the conductor had a turn in the half second, and from the
+// turn at its end on, the second gets what the first does.
 #[test]
 fn destinations_are_learnt(rt: HostRuntime) {
     assert!(rt;
         shown(&rt, rt.alloc())
-            == Some([
-                [Gets::Nothing, Gets::Nothing],
-                [Gets::Setup, Gets::Setup],
-                [Gets::Setup, Gets::Setup],
-                [Gets::Setup, Gets::Nothing],
-                [Gets::Setup, Gets::Setup],
-                [Gets::Setup, Gets::Nothing],
-                [Gets::Setup, Gets::Nothing],
-            ])
+            == Some((
+                [
+                    [Gets::Nothing, Gets::Nothing],
+                    [Gets::Setup, Gets::Setup],
+                    [Gets::Setup, Gets::Setup],
+                    [Gets::Setup, Gets::Nothing],
+                    [Gets::Setup, Gets::Setup],
+                    [Gets::Setup, Gets::Nothing],
+                    [Gets::Setup, Gets::Nothing],
+                ],
+                [
+                    [Gets::Setup, Gets::Setup],
+                    [Gets::Setup, Gets::Setup],
+                    [Gets::Setup, Gets::Nothing],
+                    [Gets::Setup, Gets::Nothing],
+                    [Gets::Setup, Gets::Setup],
+                ],
+            ))
     );
 }

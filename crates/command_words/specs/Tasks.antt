@@ -40,14 +40,15 @@ asked_texts asks.Check = []
 asked_texts asks.Show = []
 asked_texts (asks.Decide question) = question_texts question
 asked_texts (asks.Explain question) = question_texts question
-asked_texts (asks.Lint strict) = []
+asked_texts (asks.Lint strict soon) = (codes "soon", option_copied soon) ∷ []
 asked_texts (asks.Test cases) = (codes "CASES", Some cases.now) ∷ []
 asked_texts (asks.Table principal) = (codes "principal", option_copied principal) ∷ []
 asked_texts (asks.Diff new) = (codes "NEW", Some new.now) ∷ []
 
 abbrev pub asking_texts : Asking → Texts
 asking_texts asking =
-    (codes "POLICY", Some asking.policy.now) ∷ (codes "names", option_copied asking.names) ∷ asked_texts asking.asked
+    (codes "POLICY", Some asking.policy.now) ∷ (codes "names", option_copied asking.names)
+    ∷ (codes "at", option_copied asking.at) ∷ asked_texts asking.asked
 
 abbrev pub messages_texts : Messages → Texts
 messages_texts (messages.Encode words) = []
@@ -113,7 +114,7 @@ asked_word asks.Check = words.Check
 asked_word asks.Show = words.Show
 asked_word (asks.Decide question) = words.Decide
 asked_word (asks.Explain question) = words.Explain
-asked_word (asks.Lint strict) = words.Lint
+asked_word (asks.Lint strict soon) = words.Lint
 asked_word (asks.Test cases) = words.Test
 asked_word (asks.Table principal) = words.Table
 asked_word (asks.Diff new) = words.Diff

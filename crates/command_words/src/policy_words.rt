@@ -7,7 +7,7 @@ ghost use Rattle.std.specs.List.{AllByRecursion};
 ghost use Rattle.std.specs.Prelude.{◌≡◌, ◌∷◌, [], IfSome, Some, codes, is_some, true};
 
 use crate::command_line::with;
-use crate::numbers::{number_in, signed_in};
+use crate::numbers::signed_in;
 use clap::{Arg, ArgAction, ArgMatches, Command, value_parser};
 use std::alloc::{AllocError, Global};
 
@@ -21,7 +21,8 @@ Example: a policy of two rules, and one whose first rule ends its range of strea
   aeron_policyd: rule 1: bad range
 
 A policy is TOML: `version = 1`, `default = \"allow\"` or `\"deny\"`, and any `[[rule]]` with `name`, `principal`, `act`,
-`channel`, `allow` and perhaps `stream = [LOW, HIGH]`. Principals are `nobody` and `p1` to `p63`, or `*` for everybody.
+`channel`, `allow` and perhaps `stream = [LOW, HIGH]`. With `version = 2` a rule may hold from `from` on and up to `until`, in
+nanoseconds since 1970. Principals are `nobody` and `p1` to `p63`, or `*` for everybody.
 
 With --names FILE principals have the names of that file, whose lines are `principal NAME NUMBER` as in a script.
 
@@ -55,6 +56,15 @@ With --names FILE principals have the names of that file, whose lines are `princ
   $ aeron_policyd decide --names desk.names named.toml gateway publish aeron:ipc 1010
   allowed by rule 1 in policy 1
 
+With --at MOMENT it is asked at that moment, a number of nanoseconds since 1970 or a date: here the desk publishes from 8 to 18.
+
+  $ aeron_policyd decide --names desk.names --at 2026-12-01T08:00:00Z operating/hours.toml gateway publish aeron:ipc 1010
+  allowed by rule 1 in policy 1
+  $ aeron_policyd decide --names desk.names --at 1796148000000000000 operating/hours.toml gateway publish aeron:ipc 1010
+  denied by default in policy 1
+  $ aeron_policyd decide --names desk.names operating/hours.toml gateway publish aeron:ipc 1010
+  denied by default in policy 1
+
 Status: 0; 1 after `aeron_policyd: FAULT` on standard error, the first of: cannot read file, read failed, too long, a
 fault of the names or of the policy, unknown principal, unknown act, invalid channel; or write failed, or no memory; 2
 for a command line that is at fault.";
@@ -69,7 +79,13 @@ Example: a verdict says `rule 2`; which one is that?
   default deny
 
 The columns are the rule's number, its name, its principal, its acts, its pattern, its streams and its word; `*` is every
-one. The first rule that matches decides; where none does, the default stands.
+one. The first rule that matches decides; where none does, the default stands. Where a rule holds for a time, the dates between
+which it does stand before the word:
+
+  $ aeron_policyd show --names operating/contractor.names operating/contractor.toml
+  1  the contractor reads telemetry to the end of 2026  contractor  subscribe,image,receive  aeron:ipc  3000..3019  until 2027-01-01T00:00:00Z  allow
+  2  the pricer publishes telemetry                     pricer      publish,offer            aeron:ipc  3000..3019  always                      allow
+  default deny
 
 With --names FILE principals have the names of that file, whose lines are `principal NAME NUMBER` as in a script, in place
 of p1 to p63. A principal that has no name there is written by its number, as `#7`.
@@ -94,7 +110,14 @@ Example: may p1 subscribe to `aeron:ipc`, stream 9, may p2, and why?
   aeron_policyd: invalid channel: bad value of endpoint
 
 The first line is what `decide` says. Of each rule before the one that decides, the first part that does not match is
-named: the principal, the act, the medium or a key of the channel, or the stream.
+named: the principal, the act, the medium or a key of the channel, or the stream. Of a rule that does not hold at the moment of
+--at, which is 0 if none is given, it is the moment:
+
+  $ aeron_policyd explain --names operating/contractor.names --at 2027-01-01T00:00:00Z operating/contractor.toml contractor receive aeron:ipc 3000
+  denied by default in policy 1
+  no rule matches
+  rule 1, the contractor reads telemetry to the end of 2026: the moment does not match
+  rule 2, the pricer publishes telemetry: the principal does not match
 
 Status: 0, whatever the policy decides; 1 after `aeron_policyd: FAULT` on standard error: those of `decide`, a fault of the
 names, or `invalid channel:` with its cause; 2 for a command line that is at fault.";
@@ -114,7 +137,12 @@ Example: four questions with the answers that are wanted, one of which the polic
   3 passed, 1 failed
 
 A case is a question, the word that is wanted, and perhaps by what: the number of a rule, or the default. Words have spaces
-between them, one or more. Empty lines, and those that begin with `#`, say nothing.
+between them, one or more. Empty lines, and those that begin with `#`, say nothing. With --at all are asked at that moment:
+
+  $ aeron_policyd test --names desk.names --at 2026-12-01T08:00:00Z operating/hours.toml operating/hours.cases
+  3 passed, 0 failed
+  $ aeron_policyd test --names desk.names --at 2026-12-01T18:00:00Z operating/hours.toml operating/after_hours.cases
+  3 passed, 0 failed
 
 Status: 0 where each case passes; 1 where one fails, and after `aeron_policyd: FAULT` on standard error: those of `check`, a
 fault of the names, or the first line that is no case, as `cases: line 5: unknown act`; 2 for a command line that is at
@@ -133,11 +161,19 @@ Example: nothing is wrong with one policy, and a range of another one ends befor
 All faults are said, each with the line and the column of its key. Where there is none, warnings are of rules that are
 likely not meant as they stand: a rule that never decides, and by which rules it is hidden; an act that no request of that
 channel or stream has; a key or a value that no channel has; a beginning that ends inside a number; a denial that a channel
-evades by leaving a key out; a grant that does not serve without another one; a type of counters that is the driver's own.
+evades by leaving a key out; a grant that does not serve without another one; a type of counters that is the driver's own. A
+rule that is over is one too, as of now or of the moment of --at; and with --soon PERIOD a rule that ends within that time:
+
+  $ aeron_policyd lint --names operating/contractor.names --at 2026-12-28T00:00:00Z --soon 7d operating/contractor.toml
+  operating/contractor.toml:10:1: warning: rule 1 (the contractor reads telemetry to the end of 2026): ends at 2027-01-01T00:00:00Z
+  no faults, 1 warning
+  $ aeron_policyd lint --names operating/contractor.names --at 2027-01-01T00:00:00Z operating/contractor.toml
+  operating/contractor.toml:10:1: warning: rule 1 (the contractor reads telemetry to the end of 2026): is over since 2027-01-01T00:00:00Z
+  no faults, 1 warning
 
 Status: 0; 1 where there is a fault, and with --strict also where there is a warning, and after `aeron_policyd: FAULT` on
-standard error: cannot read file, read failed, too long, a fault of the names, write failed, or no memory; 2 for a command
-line that is at fault.";
+standard error: no clock, cannot read file, read failed, too long, a fault of the names, write failed, or no memory; 2 for a
+command line that is at fault.";
 
 /// What `table` says.
 const TABLE: &str = "\
@@ -153,7 +189,13 @@ Example: what may p1 do?
 A row has the principal, the acts, the medium, the pattern, the streams, the word and the rule. Rows of one principal, act
 and stream interval stand in order: the first whose pattern covers a channel decides it. What only the default decides is
 left out. Without --principal the rows of each principal that a rule names follow one another, and at last those of all
-others.
+others. Rules that do not hold at the moment of --at, which is 0 if none is given, have no row:
+
+  $ aeron_policyd table --names desk.names --at 2026-12-01T08:00:00Z --principal gateway operating/hours.toml
+  gateway  publish,offer  ipc  aeron:ipc  1000..1099  allow  rule 1
+  1 row
+  $ aeron_policyd table --names desk.names --at 2026-12-01T18:00:00Z --principal gateway operating/hours.toml
+  0 rows
 
 Status: 0; 1 after `aeron_policyd: FAULT` on standard error: those of `check`, a fault of the names, or unknown principal;
 2 for a command line that is at fault.";
@@ -170,7 +212,7 @@ Example: what would be decided otherwise under open.toml than under policy.toml?
 Each row is of what decides under the old policy and under the new one, a rule or the default, with different words: the
 principal, the acts, the channels and the streams of which both speak, the change, and a request as an example, where one is
 found. A request that one policy allows and the other denies is in a row. A row without an example may be one that no request
-has.
+has. Both policies are looked at at the moment of --at, which is 0 if none is given: at other ones other requests may differ.
 
 Status: 0 where nothing would be decided otherwise; 1 where something would, and after `aeron_policyd: FAULT` on standard
 error: those of `check`, for the old policy and then for the new one, or a fault of the names; 2 for a command line that is at
@@ -187,8 +229,8 @@ pub enum Asked<'a> {
     Decide(Question<'a>),
     /// What it decides of a question, and why.
     Explain(Question<'a>),
-    /// What is wrong with it, or likely not meant; whether a warning counts as a fault.
-    Lint { strict: bool },
+    /// What is wrong with it, or likely not meant; whether a warning counts as a fault, and how soon a rule has to end for one.
+    Lint { strict: bool, soon: Option<&'a str> },
     /// Whether it gives the answers that the cases in a file want.
     Test(&'a str),
     /// Who may do what under it; of one principal, if one is named.
@@ -213,8 +255,8 @@ pub struct Asking<'a> {
     pub policy: &'a str,
     /// The file of the names of principals, where one is given.
     pub names: Option<&'a str>,
-    /// The moment at which it is asked, in nanoseconds.
-    pub at: u64,
+    /// The moment at which it is asked, where one is given.
+    pub at: Option<&'a str>,
     pub asked: Asked<'a>,
 }
 
@@ -235,11 +277,26 @@ fn names_file<'a>(alloc: Global) -> Arg<'a> {
 
 /// The option that names the moment at which a policy is asked.
 fn at<'a>(alloc: Global) -> Arg<'a> {
-    Arg::new(alloc, "at")
-        .long("at")
-        .value_name("MOMENT")
-        .value_parser(value_parser!(u64).range(0..=9223372036854775807))
-        .help("The moment at which it is asked, in nanoseconds; 0 if not given")
+    Arg::new(alloc, "at").long("at").value_name("MOMENT").help(
+        "When it is asked: nanoseconds since 1970, or a date as 2026-12-01T08:00:00Z; 0 if not given",
+    )
+}
+
+/// The option that names the moment at which a policy is looked at.
+fn looked_at<'a>(alloc: Global) -> Arg<'a> {
+    Arg::new(alloc, "at").long("at").value_name("MOMENT").help(
+        "When it is looked at: nanoseconds since 1970, or a date as 2026-12-01T08:00:00Z; now if not given",
+    )
+}
+
+/// The option that names how soon a rule has to end, so that it is warned of.
+fn soon<'a>(alloc: Global) -> Arg<'a> {
+    Arg::new(alloc, "soon")
+        .long("soon")
+        .value_name("PERIOD")
+        .help(
+            "Warns of rules that end within this: a number and d, h, m or s, as 7d, or nanoseconds",
+        )
 }
 
 fn check<'a>(alloc: Global) -> Result<Command<'a>, AllocError> {
@@ -332,6 +389,8 @@ fn lint<'a>(alloc: Global) -> Result<Command<'a>, AllocError> {
         .after_help(LINT)
         .arg(policy_file(alloc))?
         .arg(strict)?
+        .arg(looked_at(alloc))?
+        .arg(soon(alloc))?
         .arg(names_file(alloc))
 }
 
@@ -435,6 +494,7 @@ fn asked_in<'m, 'a>(word: Word, of: &'m ArgMatches<'a>) -> Option<Asked<'m>>
         Word::Explain => Asked::Explain(question_in(of)?),
         Word::Lint => Asked::Lint {
             strict: of.get_flag("strict"),
+            soon: of.get_str("soon"),
         },
         Word::Test => Asked::Test(of.get_str("CASES")?),
         Word::Table => Asked::Table {
@@ -454,7 +514,7 @@ pub(crate) fn asking_in<'m, 'a>(name: &str, of: &'m ArgMatches<'a>) -> Option<As
     Some(Asking {
         policy: of.get_str("POLICY")?,
         names: of.get_str("names"),
-        at: number_in(of, "at").unwrap_or(0),
+        at: of.get_str("at"),
         asked,
     })
 }

@@ -145,11 +145,7 @@ impl Index {
     }
 
     /// The place of the first rule that matches.
-    pub(crate) fn first_match(
-        &self,
-        policy: &Standing<'_>,
-        request: &Request<'_>,
-    ) -> Option<usize>
+    pub(crate) fn first_match(&self, policy: &Standing<'_>, request: &Request<'_>) -> Option<usize>
         requires few { length policy.now.rules ≤ 1024 }
         requires index { IsIndexAt policy.now.rules self.now }
         ensures { IsDecider policy.now.rules (question_of request.now) result }

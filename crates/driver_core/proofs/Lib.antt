@@ -11,13 +11,14 @@ pub mod KeptLemmas
 pub mod LeaveLemmas
 pub mod ListLemmas
 pub mod LogListLemmas
+pub mod MomentLemmas
 pub mod OpeningLemmas
 pub mod PairLemmas
 pub mod PublishLemmas
 pub mod RecallLemmas
 pub mod ReloadingLemmas
 pub mod RuleCases
-mod RuledLemmas
+pub mod RuledLemmas
 pub mod SearchLemmas
 pub mod SettingLemmas
 pub mod SizeLemmas

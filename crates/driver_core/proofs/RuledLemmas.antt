@@ -2,7 +2,6 @@
 use Rattle.std.proofs.Common.{◌≡◌, ℕ, ℤ, ◌+◌, List, [], ◌∷◌, ◌++◌, Some, max, sym, ap, ◌∙◌}
 use Rattle.driver_core.specs.Conduct.{coming_to, moment_told}
 use Rattle.driver_core.specs.Draft.{Draft, replied, replied_opening, told}
-use Rattle.driver_core.specs.Pairs.{lacking, pairs_of}
 use Rattle.driver_core.specs.Publishing.{new_log, opening_of, publication_decision, published, ready_for}
 use Rattle.driver_core.specs.Renewal.{come_to, gone_from, images_decided, images_told, outcome_by, renewed}
 use Rattle.driver_core.specs.State.{State, ruled}
@@ -13,7 +12,6 @@ use Rattle.driver_core.specs.declared.outcome.Outcome.{Outcome}
 use Rattle.driver_core.specs.declared.told.Told.{Told}
 use Rattle.client_registry.specs.declared.client.Client.{Client}
 use Rattle.policy_core.specs.Moments.{at, coming}
-use Rattle.policy_core.specs.RuleList.{Rules}
 use Rattle.stream_registry.specs.declared.pairs.Pair.{Pair}
 use Rattle.stream_registry.specs.declared.wanted.Adding.{Adding}
 use Rattle.stream_registry.specs.declared.wanted.Adding.TheVariants.{Join, Make}
@@ -42,6 +40,18 @@ turned after inputs told gone come = record {
   come = come;
 }
 
+-- what is reported where these pairs went and came and are told of already
+abbrev pub reported : Told → List Pair → List Pair → Outcome
+reported told gone come = record {
+  response = told.response;
+  replies = told.replies;
+  decisions = told.decisions;
+  opens = told.opens;
+  closes = told.closes;
+  gone = gone;
+  come = come;
+}
+
 pub turned_is : (s : State) (inputs : Inputs) (draft : Draft) (after : State) (told : Told) (gone come : List Pair) →
     after ≡ draft.after → told ≡ told_of draft → gone ≡ gone_from s after → come ≡ come_to s after →
     turned after inputs told gone come ≡ outcome_by s inputs draft
@@ -50,6 +60,28 @@ turned_is s inputs draft after told gone come done tells goes comes =
     let goes' : gone ≡ gone_from s draft.after = goes ∙ ap (gone_from s) done in
     let comes' : come ≡ come_to s draft.after = comes ∙ ap (come_to s) done in
     λ i. turned (done i) inputs (tells i) (goes' i) (comes' i)
+
+-- the outcome of two lists of pairs that are compared: `lists` is the registry that is left, by its policy and number
+pub between_is : (s after lists : State) (inputs : Inputs) (told both : Told) (gone come : List Pair) (outcome : Outcome) →
+    lists ≡ after → gone ≡ gone_from s after → come ≡ come_to s after →
+    both ≡ record told {
+      replies = told.replies ++ (images_told after inputs gone come ++ told.later);
+      decisions = told.decisions ++ images_decided lists gone come;
+    } →
+    outcome ≡ reported both gone come →
+    outcome ≡ turned after inputs told (gone_from s after) (come_to s after)
+between_is s after lists inputs told both gone come outcome same goes comes tells is =
+    is
+    ∙ ap (λ (t : Told). reported t gone come) tells
+    ∙ (λ i. record {
+      response = told.response;
+      replies = told.replies ++ (images_told after inputs (goes i) (comes i) ++ told.later);
+      decisions = told.decisions ++ images_decided (same i) (goes i) (comes i);
+      opens = told.opens;
+      closes = told.closes;
+      gone = goes i;
+      come = comes i;
+    })
 
 -- what a publication reports, by what the lists make of it
 pub published_joined : (s : State) (client : Client) (correlation : ℕ) (wanted : Wanted) (adding : Adding) (source : ℕ) (session : ℤ) →

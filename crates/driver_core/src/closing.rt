@@ -67,7 +67,11 @@ impl Registry {
     ) -> Result<Told, AllocError>
         ensures { IfOk result (λ told. told ≡ told_of (close self.now client correlation)) }
     {
-        Told::replied(alloc, client.number, Reply::OperationSuccess { correlation })
+        Told::replied(
+            alloc,
+            client.number,
+            Reply::OperationSuccess { correlation },
+        )
     }
 
     /// The command CLIENT_CLOSE of a client that is there.

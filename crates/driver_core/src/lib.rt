@@ -66,7 +66,7 @@ pub use event::{End, Event, Inputs};
 pub use image_request::Astray;
 pub use listing::{Listed, ListedCounter, Shown};
 pub use log_request::LogRequest;
-pub use looking::policies_only_get_newer;
+pub use looking::{policies_are_of_their_moment, policies_only_get_newer};
 pub use outcome::{Outcome, Response};
 pub use parts::both;
 pub use peer::Peer;

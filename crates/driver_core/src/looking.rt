@@ -1,13 +1,16 @@
 //! What is asked by who looks at the registry.
 
-ghost use Rattle.driver_core.specs.Looking.{IsSameOrNewer};
-ghost use Rattle.driver_core.specs.Conduct.{state_after};
-ghost use Rattle.driver_core.specs.State.{State};
+ghost use Rattle.driver_core.specs.Looking.{IsAtItsMoment, IsSameOrNewer};
+ghost use Rattle.driver_core.specs.Conduct.{state_after, state_of};
+ghost use Rattle.driver_core.specs.State.{State, opened};
 ghost use Rattle.driver_core.specs.declared.event.Event.{Event};
 ghost use Rattle.driver_core.specs.declared.event.Inputs.{Inputs};
+ghost use Rattle.driver_core.specs.declared.peer.Peer.{Peer};
+ghost use Rattle.driver_core.specs.declared.settings.Settings.{Settings};
 ghost use Rattle.policy_core.specs.Question.{question_of};
+ghost use Rattle.policy_core.specs.RuleList.{Rules};
 ghost use Rattle.policy_core.specs.Rules.{verdict_of};
-ghost use Rattle.std.specs.Prelude.{◌≡◌};
+ghost use Rattle.std.specs.Prelude.{◌≡◌, List};
 
 use crate::registry::Registry;
 use counters::Counter;
@@ -17,6 +20,14 @@ use stream_registry::{Source, Subscription};
 /// After every event the policy in force is the same, under the same number, or another one under a greater number.
 pub fn policies_only_get_newer()
     ensures { (s : State) (event : Event) (inputs : Inputs) → IsSameOrNewer s (state_after s event inputs) }
+{}
+
+/// After every event the policy is what its text makes of it at the registry's moment, and what it becomes later is what its
+/// text says, whatever it was before. So it is in every registry of a run.
+pub fn policies_are_of_their_moment()
+    ensures after { (s : State) (event : Event) (inputs : Inputs) → IsAtItsMoment (state_after s event inputs) }
+    ensures every { (settings : Settings) (policy : Rules) (peers : List Peer) (events : List (Event × Inputs)) →
+        IsAtItsMoment (state_of (opened settings policy peers) events) }
 {}
 
 impl Registry {

@@ -187,7 +187,7 @@ impl Registry {
     /// Whether the policy is at this moment what it is now, or at the moment already seen where that is later. It takes no
     /// memory.
     #[tactic(auto, unfolding(crate::specs::State::ruled))]
-    pub fn is_ruled_so(&self, now: u64) -> bool
+    pub(crate) fn is_ruled_so(&self, now: u64) -> bool
         ensures { result ≡ true → ruled self.now now ≡ self.now }
     {
         self.compiled.stands_so(self.moment.max(now))

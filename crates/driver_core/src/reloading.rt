@@ -137,12 +137,7 @@ impl Registry {
         let epoch = self.compiled.epoch() + 1;
         self.all_read = false;
         self.compiled.compile(policy, epoch, self.moment);
-        self.readers.ask_again(
-            &self.streams,
-            &self.clients,
-            &policy.at(self.moment),
-            epoch,
-        );
+        self.readers.ask_again(&self.streams, &self.clients, &policy.at(self.moment), epoch);
     }
 
     /// Puts a policy in force, unless there would be too many pairs.

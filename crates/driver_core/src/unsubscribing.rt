@@ -88,7 +88,11 @@ impl Registry {
             .own_subscription(client.number, fields.registration)
         {
             Some(_) => {
-                Told::replied(alloc, client.number, Reply::OperationSuccess { correlation })
+                Told::replied(
+                    alloc,
+                    client.number,
+                    Reply::OperationSuccess { correlation },
+                )
             }
             None => {
                 let unknown = Refused::plainly(Refusal::UnknownSubscription);

@@ -6,9 +6,9 @@ use Rattle.driver_core.specs.declared.event.Event.TheVariants.{Command}
 use Rattle.driver_core.specs.declared.event.Inputs.{Inputs}
 use Rattle.driver_core.specs.declared.peer.Peer.{Peer}
 use Rattle.driver_core.specs.declared.settings.Settings.{Settings}
-use Rattle.driver_core.specs.Conduct.{state_after}
+use Rattle.driver_core.specs.Conduct.{coming_to, state_after}
 use Rattle.driver_core.specs.Requests.{AsksToPublish, PublicationRequest, publication_body, wanted_by}
-use Rattle.driver_core.specs.State.{State, opened}
+use Rattle.driver_core.specs.State.{State, opened, ruled}
 use Rattle.driver_laws.specs.Events.{AfterAnyEvents}
 use Rattle.driver_laws.specs.GrantLaws.{IsCounterMadeBy, StoodBefore}
 use Rattle.driver_laws.specs.NumberLaws.{AreApart, AreDrawn, AreRising, ListsShareNoNumber}
@@ -134,6 +134,12 @@ new_counter s event counter made = record {
   };
 }
 
+-- so it is in the registry before, which has drawn the same numbers
+new_before : (s : State) (event : Event) (list number : ℕ) → IsNew (coming_to s event) event list number →
+    IsNew s event list number
+unfolding ruled
+new_before s event list number new = record { next = new.next; draws = new.draws }
+
 -- ---- two rows of two lists
 
 -- a row that stood had a number that was drawn, and this one
@@ -170,37 +176,46 @@ apart s event list other Was WasOther number another differ before one two = λ 
 registration_from : (s : State) (event : Event) (inputs : Inputs) (row : Registration) → AreDrawn s →
     Contains (state_after s event inputs).streams.registrations row →
     Stood s (Contains s.streams.registrations row) row.number ⊎ IsNew s event 1 row.number
+unfolding ruled
 registration_from s event inputs row drawn has =
     ⊎_elim
     (λ stood. inl (record { was = stood; drawn = (drawn.registrations row stood).below }))
-    (λ (made : IsRegisteredBy s event row). inr (new_registration s event row made))
+    (λ (made : IsRegisteredBy (coming_to s event) event row).
+    inr (new_before s event 1 row.number (new_registration (coming_to s event) event row made)))
     ((published_only s event inputs).registrations row has)
 
 subscription_from : (s : State) (event : Event) (inputs : Inputs) (row : Subscription) → AreDrawn s →
     Contains (state_after s event inputs).streams.subscriptions row →
     Stood s (Contains s.streams.subscriptions row) row.number ⊎ IsNew s event 2 row.number
+unfolding ruled
 subscription_from s event inputs row drawn has =
     ⊎_elim
     (λ stood. inl (record { was = stood; drawn = (drawn.subscriptions row stood).below }))
-    (λ (made : (correlation : ℕ) × IsMadeBy s event correlation row).
-    inr (new_subscription s event row made.0 made.1))
+    (λ (made : (correlation : ℕ) × IsMadeBy (coming_to s event) event correlation row).
+    inr (new_before s event 2 row.number (new_subscription (coming_to s event) event row made.0 made.1)))
     ((grants_only s event inputs).stands row has)
 
 counter_from : (s : State) (event : Event) (inputs : Inputs) (counter : Counter) → AreDrawn s →
     Contains (state_after s event inputs).counters counter →
     Stood s (StoodBefore s counter) counter.number ⊎ IsNew s event 3 counter.number
+unfolding ruled
 counter_from s event inputs counter drawn has =
     ⊎_elim
-    (λ (stood : StoodBefore s counter).
+    (λ (stood : StoodBefore (coming_to s event) counter).
     let same : counter.number ≡ stood.before.number = ap (λ (c : Counter). c.number) stood.same in
-    inl (record { was = stood; drawn = rw same (drawn.counters stood.before stood.stood).below }))
-    (λ (made : IsCounterMadeBy s event counter). inr (new_counter s event counter made))
+    inl (record {
+      was = record { before = stood.before; stood = stood.stood; same = stood.same };
+      drawn = rw same (drawn.counters stood.before stood.stood).below;
+    }))
+    (λ (made : IsCounterMadeBy (coming_to s event) event counter).
+    inr (new_before s event 3 counter.number (new_counter (coming_to s event) event counter made)))
     ((counts_and_ends_only s event inputs).counters counter has)
 
 -- a log was live, or a request makes it, or a SETUP
 abbrev IsFrom : State → Event → Source → Type 0
 IsFrom s event log =
-    Stood s (WasLive s.streams log) log.number ⊎ (IsNew s event 1 log.number ⊎ IsImageMadeBy s event log)
+    Stood s (WasLive s.streams log) log.number
+    ⊎ (IsNew s event 1 log.number ⊎ IsImageMadeBy (coming_to s event) event log)
 
 -- a SETUP asks for no row of another list
 draws_none : (s : State) (event : Event) (log : Source) (list : ℕ) → IsImageMadeBy s event log → DrawsFor event list → ⊥
@@ -211,6 +226,7 @@ draws_none s event log list image draws =
 log_apart : (s : State) (event : Event) (log : Source) (other : ℕ) (WasOther : Type 0) (another : ℕ) → (1 ≡ other → ⊥) →
     (WasLive s.streams log → WasOther → ¬ (log.number ≡ another)) → IsFrom s event log →
     Stood s WasOther another ⊎ IsNew s event other another → ¬ (log.number ≡ another)
+unfolding ruled
 log_apart s event log other WasOther another differ before one two = λ same.
     ⊎_elim
     (λ (stood : Stood s (WasLive s.streams log) log.number).
@@ -219,13 +235,13 @@ log_apart s event log other WasOther another differ before one two = λ same.
     ⊎_elim
     (λ (new : IsNew s event 1 log.number).
     apart s event 1 other (WasLive s.streams log) WasOther log.number another differ before (inr new) two same)
-    (λ (image : IsImageMadeBy s event log).
-    let high = image_number s event log image in
+    (λ (image : IsImageMadeBy (coming_to s event) event log).
+    let high = image_number (coming_to s event) event log image in
     ⊎_elim
     (λ (stood : Stood s WasOther another).
     let low = stood.drawn in
     absurd (omega (arith, low, high, same)))
-    (λ (new : IsNew s event other another). draws_none s event log other image new.draws)
+    (λ (new : IsNew s event other another). draws_none (coming_to s event) event log other image new.draws)
     two)
     made)
     one
@@ -233,13 +249,17 @@ log_apart s event log other WasOther another differ before one two = λ same.
 log_from : (s : State) (event : Event) (inputs : Inputs) (log : Source) → AreDrawn s →
     Contains (state_after s event inputs).streams.sources log →
     IsFrom s event log
+unfolding ruled
 log_from s event inputs log drawn has =
     ⊎_elim
     (λ (stood : WasLive s.streams log).
     let same : log.number ≡ stood.before.number = ap (λ (p : Source). p.number) stood.same in
     inl (record { was = stood; drawn = rw same (drawn.sources stood.before stood.stood).below }))
     (λ others.
-    ⊎_elim (λ (made : IsLogMadeBy s event log). inr (inl (new_log s event log made))) (λ image. inr (inr image)) others)
+    ⊎_elim
+    (λ (made : IsLogMadeBy (coming_to s event) event log).
+    inr (inl (new_before s event 1 log.number (new_log (coming_to s event) event log made))))
+    (λ image. inr (inr image)) others)
     ((published_only s event inputs).logs log has)
 
 counter_number : (s : State) (counter : Counter) (stood : StoodBefore s counter) → counter.number ≡ stood.before.number
@@ -297,35 +317,37 @@ registered_with : (s : State) (event : Event) (inputs : Inputs) (log : Source) (
     AreApart s → Contains (state_after s event inputs).streams.sources log →
     Contains (state_after s event inputs).streams.registrations row → log.number ≡ row.number →
     row.source ≡ log.number
+unfolding ruled
 registered_with s event inputs log row drawn before is_live stands same =
+    let at : State = coming_to s event in
     ⊎_elim
     (λ (was : WasLive s.streams log).
     let number = log_number s log was in
     let low = (drawn.sources was.before was.stood).below in
     ⊎_elim
     (λ stood. before.logs_and_registrations was.before row was.stood stood (sym number ∙ same) ∙ sym number)
-    (λ (registered : IsRegisteredBy s event row).
-    let high = (new_registration s event row registered).next in
+    (λ (registered : IsRegisteredBy at event row).
+    let high = (new_registration at event row registered).next in
     absurd (omega (arith, number, low, high, same)))
     ((published_only s event inputs).registrations row stands))
     (λ others.
     ⊎_elim
-    (λ (made : IsLogMadeBy s event log).
+    (λ (made : IsLogMadeBy at event log).
     ⊎_elim
     (λ stood.
     let low = (drawn.registrations row stood).below in
-    let high = (new_log s event log made).next in
+    let high = (new_log at event log made).next in
     absurd (omega (arith, low, high, same)))
-    (λ (registered : IsRegisteredBy s event row). made_together s event log row made registered)
+    (λ (registered : IsRegisteredBy at event row). made_together at event log row made registered)
     ((published_only s event inputs).registrations row stands))
-    (λ (image : IsImageMadeBy s event log).
+    (λ (image : IsImageMadeBy at event log).
     ⊎_elim
     (λ stood.
     let low = (drawn.registrations row stood).below in
-    let high = image_number s event log image in
+    let high = image_number at event log image in
     absurd (omega (arith, low, high, same)))
-    (λ (registered : IsRegisteredBy s event row).
-    absurd (draws_none s event log 1 image (new_registration s event row registered).draws))
+    (λ (registered : IsRegisteredBy at event row).
+    absurd (draws_none at event log 1 image (new_registration at event row registered).draws))
     ((published_only s event inputs).registrations row stands))
     others)
     ((published_only s event inputs).logs log is_live)

@@ -3,6 +3,7 @@ use Rattle.std.proofs.Common.{◌≡◌, ℕ, ◌+◌, ◌||◌, ◌==◌, Bool,
 use Rattle.std.specs.List.{Contains, list_any}
 use Rattle.std.specs.Option.{option_map}
 use Rattle.std.specs.Prelude.{All, find, is_some}
+use Rattle.std.proofs.lemmas.List.{append-nil}
 use Rattle.std.proofs.lemmas.List.Elements.{All-contains_itself, All-weaker}
 use Rattle.driver_core.specs.declared.event.Event.TheVariants.{Attach}
 use Rattle.driver_core.specs.declared.event.Inputs.{Inputs}
@@ -13,16 +14,15 @@ use Rattle.driver_core.specs.Conduct.{conduct, drafted}
 use Rattle.driver_core.specs.Draft.{answered}
 use Rattle.driver_core.specs.Pairs.{pairs_of}
 use Rattle.driver_core.specs.Renewal.{renewed}
-use Rattle.driver_core.specs.State.{State, at_moment}
+use Rattle.driver_core.specs.State.{State, at_moment, ruled}
+use Rattle.driver_core.specs.Unread.{dropping}
 use Rattle.driver_laws.specs.AttachingLaws.{IsAttached, IsAttachedExactly, IsOnlyAnswered, NobodyComes}
-use Rattle.driver_laws.specs.ImageLaws.{AreRead}
 use Rattle.driver_laws.specs.OwnerLaws.{HaveTheirClients}
 use Rattle.client_registry.specs.declared.client.Client.{Client}
 use Rattle.client_registry.specs.Clients.{admitted, has_room}
 use Rattle.log_readers.specs.Numbering.{IsOwned}
 use Rattle.log_readers.proofs.SameLemmas.{admitted_alike}
-use Rattle.driver_laws.proofs.RenewalLemmas.{ToldAsItIs, unchanged}
-use Rattle.driver_laws.proofs.StayingLemmas.{DropsNothing, as_before, drops_none}
+use Rattle.driver_laws.proofs.TurningLemmas.{owned_at, turns_to}
 
 -- ---- whose subscriptions these are is there
 
@@ -58,46 +58,34 @@ unfolding attached answered at_moment pairs_of
 attached_pairs s now principal owned =
     (admitted_alike s.policy s.epoch s.streams s.clients principal (at_moment s now).moment (all_owned s owned)).pairs
 
-answered_drops : (s : State) (now : ℕ) (response : Response) → AreRead s →
-    DropsNothing s (answered (at_moment s now) response)
-unfolding answered at_moment
-answered_drops s now response read = as_before s _ read refl refl (answered_pairs s now response)
-
-attached_drops : (s : State) (now principal : ℕ) → AreRead s → HaveTheirClients s →
-    DropsNothing s (attached (at_moment s now) principal)
-unfolding attached answered at_moment
-attached_drops s now principal read owned = as_before s _ read refl refl (attached_pairs s now principal owned)
-
 -- ---- what is told
 
-only_answered : (s : State) (inputs : Inputs) (after : State) (response : Response) → pairs_of after ≡ pairs_of s →
-    IsOnlyAnswered response (renewed s inputs (answered after response))
-unfolding renewed answered
-only_answered s inputs after response same =
-    let as_it_is : ToldAsItIs (answered after response) (renewed s inputs (answered after response)) =
-    unchanged s inputs (answered after response) same in
-    record {
-      response_is = refl;
-      replies = as_it_is.replies;
-      decisions = as_it_is.decisions;
-      closes = refl;
-    }
-
-nobody_comes : (s : State) (now : ℕ) (inputs : Inputs) (response : Response) →
-    NobodyComes s now response (renewed s inputs (answered (at_moment s now) response))
-unfolding answered at_moment
-nobody_comes s now inputs response = record {
-  after_is = (unchanged s inputs (answered (at_moment s now) response) (answered_pairs s now response)).after;
-  answered = only_answered s inputs (at_moment s now) response (answered_pairs s now response);
+only_answered : (before s : State) (inputs : Inputs) (after : State) (response : Response) → pairs_of after ≡ pairs_of s →
+    IsOnlyAnswered before s after inputs response (dropping before (renewed before inputs (answered after response)))
+unfolding dropping renewed answered
+only_answered before s inputs after response same = record {
+  response_is = refl;
+  turns = turns_to before inputs (answered after response) s refl same;
+  replies = append-nil _;
+  decisions = refl;
 }
 
-one_comes : (s : State) (now principal : ℕ) (inputs : Inputs) → HaveTheirClients s →
-    IsAttached s now principal (renewed s inputs (attached (at_moment s now) principal))
-unfolding attached answered admitted at_moment
-one_comes s now principal inputs owned = record {
-  after_is =
-      (unchanged s inputs (attached (at_moment s now) principal) (attached_pairs s now principal owned)).after;
-  answered = only_answered s inputs _ (Attached (s.clients.last + 1)) (attached_pairs s now principal owned);
+nobody_comes : (before s : State) (now : ℕ) (inputs : Inputs) (response : Response) →
+    NobodyComes before s now inputs response (
+    dropping before (renewed before inputs (answered (at_moment s now) response)))
+unfolding dropping renewed answered
+nobody_comes before s now inputs response = record {
+  after_is = refl;
+  answered = only_answered before s inputs (at_moment s now) response (answered_pairs s now response);
+}
+
+one_comes : (before s : State) (now principal : ℕ) (inputs : Inputs) → HaveTheirClients s →
+    IsAttached before s now principal inputs (
+    dropping before (renewed before inputs (attached (at_moment s now) principal)))
+unfolding dropping renewed attached answered admitted at_moment
+one_comes before s now principal inputs owned = record {
+  after_is = refl;
+  answered = only_answered before s inputs _ (Attached (s.clients.last + 1)) (attached_pairs s now principal owned);
 }
 
 -- ---- where it comes
@@ -117,26 +105,16 @@ when_full : (s : State) (now principal : ℕ) → s.stopped ≡ false → has_ro
 unfolding attach at_moment
 when_full s now principal runs full = rw (runs, full) refl
 
-nobody_by : (s : State) (now principal : ℕ) (inputs : Inputs) (response : Response) → AreRead s →
-    attach (at_moment s now) principal ≡ answered (at_moment s now) response →
-    NobodyComes s now response (conduct s (Attach now principal) inputs)
-unfolding conduct drafted
-nobody_by s now principal inputs response read is =
-    rw (is, drops_none s inputs (answered (at_moment s now) response) (answered_drops s now response read))
-    (nobody_comes s now inputs response)
-
-one_by : (s : State) (now principal : ℕ) (inputs : Inputs) → AreRead s → HaveTheirClients s →
-    attach (at_moment s now) principal ≡ attached (at_moment s now) principal →
-    IsAttached s now principal (conduct s (Attach now principal) inputs)
-unfolding conduct drafted
-one_by s now principal inputs read owned is =
-    rw (is, drops_none s inputs (attached (at_moment s now) principal) (attached_drops s now principal read owned))
-    (one_comes s now principal inputs owned)
-
-pub attached_exactly : (s : State) → AreRead s → HaveTheirClients s → (now principal : ℕ) (inputs : Inputs) →
-    IsAttachedExactly s now principal (conduct s (Attach now principal) inputs)
-attached_exactly s read owned now principal inputs = record {
-  stopped = λ stopped. nobody_by s now principal inputs Stopped read (when_stopped s now principal stopped);
-  attached = λ runs room. one_by s now principal inputs read owned (when_room s now principal runs room);
-  full = λ runs full. nobody_by s now principal inputs Full read (when_full s now principal runs full);
+comes_by : (before s : State) → HaveTheirClients s → (now principal : ℕ) (inputs : Inputs) →
+    IsAttachedExactly before s now principal inputs (
+    dropping before (renewed before inputs (attach (at_moment s now) principal)))
+comes_by before s owned now principal inputs = record {
+  stopped = λ stopped. rw (when_stopped s now principal stopped) (nobody_comes before s now inputs Stopped);
+  attached = λ runs room. rw (when_room s now principal runs room) (one_comes before s now principal inputs owned);
+  full = λ runs full. rw (when_full s now principal runs full) (nobody_comes before s now inputs Full);
 }
+
+pub attached_exactly : (s : State) → HaveTheirClients s → (now principal : ℕ) (inputs : Inputs) →
+    IsAttachedExactly s (ruled s now) now principal inputs (conduct s (Attach now principal) inputs)
+unfolding conduct drafted
+attached_exactly s owned now principal inputs = comes_by s (ruled s now) (owned_at s now owned) now principal inputs

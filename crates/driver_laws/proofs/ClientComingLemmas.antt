@@ -11,7 +11,7 @@ use Rattle.driver_core.specs.declared.outcome.Response.TheVariants as response
 use Rattle.driver_core.specs.Attaching.{attach, attached}
 use Rattle.driver_core.specs.Closing.{close, keep_alive}
 use Rattle.driver_core.specs.Commands.{heard, at_request}
-use Rattle.driver_core.specs.Conduct.{conduct, drafted, state_after}
+use Rattle.driver_core.specs.Conduct.{coming_to, conduct, drafted, state_after}
 use Rattle.driver_core.specs.Counting.{counted, uncounted, valued, with_counter}
 use Rattle.driver_core.specs.Draft.{Draft, answered, refused, replied, replied_opening, told}
 use Rattle.driver_core.specs.Leaving.{all_left, left}
@@ -19,7 +19,7 @@ use Rattle.driver_core.specs.Publishing.{published, with_directed_publication, w
 use Rattle.driver_core.specs.Reloading.{in_force, reloaded}
 use Rattle.driver_core.specs.Renewal.{renewed}
 use Rattle.driver_core.specs.SettingUp.{image_made, with_image}
-use Rattle.driver_core.specs.State.{State, at_moment}
+use Rattle.driver_core.specs.State.{State, at_moment, ruled}
 use Rattle.driver_core.specs.Subscribing.{subscribed, with_subscription}
 use Rattle.driver_core.specs.Terminating.{stopped_for_good, terminated}
 use Rattle.driver_core.specs.Ticking.{closed_past, late, tick, ticked}
@@ -151,16 +151,23 @@ draft_comes s (Setup now local from setup) inputs =
     (λ fault. all_stay s (Setup now local from setup)) (λ join place is set. all_stay s (Setup now local from setup))
 
 pub clients_attached : (s : State) (event : Event) (inputs : Inputs) (client : Client) →
-    Contains (state_after s event inputs).clients.rows client → WasAttached s client ⊎ IsAttachedBy s event client
-unfolding conduct renewed dropping without_unread
-clients_attached s event inputs = draft_comes s event inputs
+    Contains (state_after s event inputs).clients.rows client →
+    WasAttached s client ⊎ IsAttachedBy (coming_to s event) event client
+unfolding conduct renewed dropping without_unread ruled
+clients_attached s event inputs client has =
+    ⊎_elim
+    (λ (was : WasAttached (coming_to s event) client).
+    inl (record { before = was.before; stood = was.stood; same = was.same }))
+    (λ made. inr made)
+    (draft_comes (coming_to s event) event inputs client has)
 
 pub clients_come : (s : State) (event : Event) (inputs : Inputs) (client : Client) →
     Contains (state_after s event inputs).clients.rows client →
     WasAttached s client ⊎ (s.clients.last < client.number)
+unfolding ruled
 clients_come s event inputs client has =
     ⊎_elim (λ was. inl was)
-    (λ (made : IsAttachedBy s event client).
+    (λ (made : IsAttachedBy (coming_to s event) event client).
     let next = ap (λ (row : Client). row.number) made.made_is in
     inr (omega (arith, next)))
     (clients_attached s event inputs client has)

@@ -10,7 +10,7 @@ use Rattle.driver_core.specs.declared.event.Event.TheVariants.{Attach, Command, 
 use Rattle.driver_core.specs.Attaching.{attached}
 use Rattle.driver_core.specs.Closing.{close, keep_alive}
 use Rattle.driver_core.specs.Commands.{heard}
-use Rattle.driver_core.specs.Conduct.{conduct, drafted}
+use Rattle.driver_core.specs.Conduct.{coming_to, conduct, drafted, moment_told}
 use Rattle.driver_core.specs.Counting.{counted, uncounted, valued, with_counter}
 use Rattle.driver_core.specs.Draft.{Draft, answered, refused, replied, replied_opening, told}
 use Rattle.driver_core.specs.Leaving.{all_left, left}
@@ -18,7 +18,7 @@ use Rattle.driver_core.specs.Publishing.{published, with_directed_publication, w
 use Rattle.driver_core.specs.Reloading.{in_force, reloaded}
 use Rattle.driver_core.specs.Renewal.{renewed}
 use Rattle.driver_core.specs.Requests.{wanted_by}
-use Rattle.driver_core.specs.State.{State, at_moment}
+use Rattle.driver_core.specs.State.{State, at_moment, ruled}
 use Rattle.driver_core.specs.Subscribing.{subscribed, with_subscription}
 use Rattle.driver_core.specs.Terminating.{stopped_for_good, terminated}
 use Rattle.driver_core.specs.Ticking.{closed_past, late, tick, ticked}
@@ -55,6 +55,7 @@ use Rattle.driver_laws.proofs.LeftLemmas.{IsImage, from_map, mapped}
 use Rattle.driver_laws.proofs.LoggedLemmas.{IsFound}
 use Rattle.driver_laws.proofs.NumberLemmas.{all_left_rises, are_drawn, moment_rises, numbers_rise, settled_number, source_number}
 use Rattle.driver_laws.proofs.RisingLemmas.{rises_unique}
+use Rattle.driver_laws.proofs.TurningLemmas.{drawn, rising_at}
 
 -- ---- logs by their numbers
 
@@ -438,15 +439,22 @@ module _ (s : State) (event : Event) (inputs : Inputs) (log : Source) (rises : A
       twice false c = refl
 
 closed_there : (s : State) (event : Event) (inputs : Inputs) → AreRising s →
-    (conduct s event inputs).outcome.closes
-    ≡ map place_of (filter (is_no_more (conduct s event inputs).after) s.streams.sources)
-unfolding conduct renewed dropping without_unread without_unread_in pairs_of
+    (drawn s event inputs).outcome.closes
+    ≡ map place_of (filter (is_no_more (drawn s event inputs).after) s.streams.sources)
+unfolding renewed dropping without_unread without_unread_in pairs_of
 closed_there s event inputs rises =
     ap (map place_of)
     (same_pass (is_closed (renewed s inputs (drafted s event inputs)))
     (is_no_more (without_unread (drafted s event inputs).after)) s.streams.sources
     (λ log has. closes_as_lacked s event inputs log rises has))
 
+-- the registry to which the event comes has the same logs
+closed_at : (s : State) (event : Event) (inputs : Inputs) → AreRising s →
+    (conduct s event inputs).outcome.closes
+    ≡ map place_of (filter (is_no_more (conduct s event inputs).after) s.streams.sources)
+unfolding conduct renewed dropping ruled
+closed_at s event inputs rises = closed_there (coming_to s event) event inputs (rising_at s (moment_told event) rises)
+
 pub closed_were_there : ClosedLogsWereThere
 closed_were_there settings policy peers events event inputs =
-    closed_there _ event inputs (numbers_rise settings policy peers events)
+    closed_at _ event inputs (numbers_rise settings policy peers events)

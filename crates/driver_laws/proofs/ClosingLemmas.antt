@@ -8,11 +8,11 @@ use Rattle.driver_core.specs.declared.event.Event.{Event}
 use Rattle.driver_core.specs.declared.event.Event.TheVariants.{Tick}
 use Rattle.driver_core.specs.declared.event.Inputs.{Inputs}
 use Rattle.driver_core.specs.Commands.{heard, at_request}
-use Rattle.driver_core.specs.Conduct.{conduct, drafted, state_of}
+use Rattle.driver_core.specs.Conduct.{coming_to, conduct, drafted, state_of}
 use Rattle.driver_core.specs.Leaving.{all_left}
 use Rattle.driver_core.specs.Renewal.{renewed}
 use Rattle.driver_core.specs.Soundness.{MovesLogs, log_of}
-use Rattle.driver_core.specs.State.{State, at_moment, opened}
+use Rattle.driver_core.specs.State.{State, at_moment, opened, ruled}
 use Rattle.driver_core.specs.Terminating.{terminated}
 use Rattle.driver_core.specs.Ticking.{closed_past, late, tick, ticked}
 use Rattle.driver_core.specs.Pairs.{pairs_of}
@@ -29,6 +29,7 @@ use Rattle.driver_core.proofs.ListLemmas.{contains_none, only_one, passes_are_le
 use Rattle.driver_core.proofs.SoundnessLemmas.{moves_logs, registries_sound}
 use Rattle.driver_laws.proofs.KeepingLemmas.{image_alike, moment_of}
 use Rattle.driver_laws.proofs.GoneLemmas.{end_is}
+use Rattle.driver_laws.proofs.TurningLemmas.{drawn}
 use Rattle.driver_laws.proofs.LeftLemmas.{Left, each_left, mapped, past_settles, place_settles, same_but_since}
 
 -- ---- the outcome tells it
@@ -99,14 +100,14 @@ any_of test (y ∷ ys) x has passes =
 -- the event's own rule tells of the log, or none reads it any more
 closed_one : (s : State) (event : Event) (inputs : Inputs) (log : Source) → Contains s.streams.sources log →
     (not (is_left (drafted s event inputs).closes log) || is_unread (pairs_of (drafted s event inputs).after) log) ≡ true →
-    Contains (conduct s event inputs).outcome.closes (place_of log)
-unfolding conduct renewed dropping
+    Contains (drawn s event inputs).outcome.closes (place_of log)
+unfolding renewed dropping
 closed_one s event inputs log has closes =
     let goes : Source → Bool = is_closed (renewed s inputs (drafted s event inputs)) in
     mapped place_of (filter goes s.streams.sources) log (passes_are_left goes s.streams.sources log closes has)
 
 told_one : (s : State) (event : Event) (inputs : Inputs) (log : Source) → Contains s.streams.sources log →
-    Contains (drafted s event inputs).closes (place_of log) → Contains (conduct s event inputs).outcome.closes (place_of log)
+    Contains (drafted s event inputs).closes (place_of log) → Contains (drawn s event inputs).outcome.closes (place_of log)
 told_one s event inputs log has told =
     let closes : List LogPlace = (drafted s event inputs).closes in
     let any : list_any (λ (closed : LogPlace). closed.source == log.number) closes ≡ true =
@@ -116,7 +117,7 @@ told_one s event inputs log has told =
     (or_left (not (is_left closes log)) (is_unread (pairs_of (drafted s event inputs).after) log) (rw any refl))
 
 told_of : (s : State) (event : Event) (inputs : Inputs) (log : Source) → Contains s.streams.sources log →
-    Closes s event inputs log → Contains (conduct s event inputs).outcome.closes (place_of log)
+    Closes s event inputs log → Contains (drawn s event inputs).outcome.closes (place_of log)
 told_of s event inputs log has closes =
     ⊎_elim (λ past. told_one s event inputs log has (past_closes s event inputs log has past))
     (λ others.
@@ -161,11 +162,17 @@ none_live s change log other moves told has same =
 
 -- ---- the law
 
+-- the registry to which the event comes has the same logs
+told_at : (s : State) (event : Event) (inputs : Inputs) (log : Source) → Contains s.streams.sources log →
+    Closes (coming_to s event) event inputs log → Contains (conduct s event inputs).outcome.closes (place_of log)
+unfolding conduct renewed dropping ruled
+told_at s event inputs log has closes = told_of (coming_to s event) event inputs log has closes
+
 closed_by : (s : State) (event : Event) (inputs : Inputs) (log : Source) →
-    MovesLogs s (conduct s event inputs) → Contains s.streams.sources log → Closes s event inputs log →
+    MovesLogs s (conduct s event inputs) → Contains s.streams.sources log → Closes (coming_to s event) event inputs log →
     IsClosed (conduct s event inputs) log
 closed_by s event inputs log moves has closes =
-    let told = told_of s event inputs log has closes in
+    let told = told_at s event inputs log has closes in
     record {
       told = told;
       gone = λ other there same. none_live s (conduct s event inputs) log other moves told there same;

@@ -10,7 +10,7 @@ use Rattle.driver_core.specs.declared.settings.Settings.{Settings}
 use Rattle.driver_core.specs.Attaching.{attached}
 use Rattle.driver_core.specs.Closing.{close, keep_alive}
 use Rattle.driver_core.specs.Commands.{heard}
-use Rattle.driver_core.specs.Conduct.{conduct, drafted, state_after}
+use Rattle.driver_core.specs.Conduct.{coming_to, conduct, drafted, state_after}
 use Rattle.driver_core.specs.Counting.{counted, uncounted, valued, with_counter}
 use Rattle.driver_core.specs.Directing.{directed, recalled, with_destination, without_destination}
 use Rattle.driver_core.specs.Draft.{Draft, answered, refused, replied, replied_opening, told}
@@ -20,7 +20,7 @@ use Rattle.driver_core.specs.Reloading.{in_force, reloaded}
 use Rattle.driver_core.specs.Renewal.{renewed}
 use Rattle.driver_core.specs.Requests.{wanted_by}
 use Rattle.driver_core.specs.SettingUp.{image_made, with_image}
-use Rattle.driver_core.specs.State.{State, at_moment}
+use Rattle.driver_core.specs.State.{State, at_moment, ruled}
 use Rattle.driver_core.specs.Subscribing.{subscribed, with_subscription}
 use Rattle.driver_core.specs.Terminating.{stopped_for_good, terminated}
 use Rattle.driver_core.specs.Ticking.{closed_past, late, tick, ticked}
@@ -108,5 +108,5 @@ draft_counted settings s (Setup now local from setup) inputs fits =
 
 pub event_counted : (settings : Settings) (s : State) (event : Event) (inputs : Inputs) → IsCounted settings s →
     IsCounted settings (state_after s event inputs)
-unfolding conduct renewed dropping without_unread without_unread_in
-event_counted settings s event inputs fits = draft_counted settings s event inputs fits
+unfolding conduct renewed dropping without_unread without_unread_in ruled
+event_counted settings s event inputs fits = draft_counted settings (coming_to s event) event inputs fits

@@ -9,7 +9,7 @@ use Rattle.driver_core.specs.declared.refusal.Refusal.{Refusal}
 use Rattle.driver_core.specs.Attaching.{attached}
 use Rattle.driver_core.specs.Closing.{keep_alive, close}
 use Rattle.driver_core.specs.Commands.{asked, asked_by, at_request, body_change, command, command_from, heard, requested}
-use Rattle.driver_core.specs.Conduct.{conduct, drafted}
+use Rattle.driver_core.specs.Conduct.{coming_to, conduct, drafted}
 use Rattle.driver_core.specs.Counting.{add_counter, counted, remove_counter, set_counter, uncounted, valued}
 use Rattle.driver_core.specs.Deciding.{decision_by, question_by}
 use Rattle.driver_core.specs.Directing.{add_destination, added_on, destination_decision, directed, directed_as, directing_by, directing_of, directing_on, recalled, recalled_as, recalling_by, recalling_of, recalling_on, remove_destination}
@@ -369,13 +369,14 @@ all_decided P t gone come each =
 -- ---- all of them
 
 pub decisions_by_policy : (s : State) (event : Event) (inputs : Inputs) →
-    AllByRecursion (IsInForce s event (conduct s event inputs)) (conduct s event inputs).outcome.decisions
+    AllByRecursion (IsInForce (coming_to s event) event (conduct s event inputs)) (conduct s event inputs).outcome.decisions
 unfolding conduct dropping renewed without_unread without_unread_in
 decisions_by_policy s event inputs =
-    let draft : Draft = drafted s event inputs in
-    let P : Decision → Type 0 = IsInForce s event (conduct s event inputs) in
+    let at : State = coming_to s event in
+    let draft : Draft = drafted at event inputs in
+    let P : Decision → Type 0 = IsInForce at event (conduct s event inputs) in
     all_append P draft.decisions _
-    (all_weaker (IsOnRequest s event) P (λ decision on. inl on) draft.decisions (draft_decides s event inputs))
+    (all_weaker (IsOnRequest at event) P (λ decision on. inl on) draft.decisions (draft_decides at event inputs))
     (all_decided P draft.after (gone_from s draft.after) (come_to s draft.after)
     (λ pair turns subscription principal stands number attached'.
     inr (record {

@@ -16,7 +16,7 @@ use Rattle.driver_core.specs.declared.setup_fault.SetupFault.TheVariants as faul
 use Rattle.driver_core.specs.Attaching.{attached}
 use Rattle.driver_core.specs.Closing.{keep_alive, close}
 use Rattle.driver_core.specs.Commands.{heard, at_request}
-use Rattle.driver_core.specs.Conduct.{conduct, drafted, outcome_of}
+use Rattle.driver_core.specs.Conduct.{coming_to, conduct, drafted, moment_told, outcome_of}
 use Rattle.driver_core.specs.Counting.{counted, valued, uncounted}
 use Rattle.driver_core.specs.Deciding.{decision_by, question_by}
 use Rattle.driver_core.specs.Draft.{Draft, answered, told, replied, replied_opening, refused}
@@ -64,6 +64,7 @@ use Rattle.driver_laws.proofs.SettingUpLemmas.{denied_is, denied_to}
 use Rattle.driver_laws.proofs.SubscribingLemmas.{asks_before, found_number}
 use Rattle.driver_laws.proofs.LeavingLemmas.{all_timeouts}
 use Rattle.driver_laws.proofs.RenewalLemmas.{all_replies}
+use Rattle.driver_laws.proofs.TurningLemmas.{owned_at, rising_at}
 
 -- ---- the cases of an event
 
@@ -414,20 +415,22 @@ draft_names s (Tick now) inputs rises owned = tick_names s now inputs
 draft_names s (Setup now local from setup) inputs rises owned = set_up_names s now local from setup inputs rises owned
 
 -- what is told of images denies nothing
-replies_named : (s : State) (event : Event) (inputs : Inputs) → Names s event (drafted s event inputs) →
-    AllByRecursion (IsNamed s event) (outcome_of s event inputs).replies
+replies_named : (s : State) (event : Event) (inputs : Inputs) →
+    Names (coming_to s event) event (drafted (coming_to s event) event inputs) →
+    AllByRecursion (IsNamed (coming_to s event) event) (outcome_of s event inputs).replies
 unfolding conduct dropping
 replies_named s event inputs names =
-    all_replies (IsNamed s event) s inputs (drafted s event inputs) names.replies
+    all_replies (IsNamed (coming_to s event) event) s inputs (drafted (coming_to s event) event inputs) names.replies
     (λ client source subscription stream. tt)
     (λ client source subscription session stream position identity. tt)
     names.later
 
 pub denials_named : (s : State) (event : Event) (inputs : Inputs) → AreRising s → HaveTheirClients s →
-    NamesDenials s event (outcome_of s event inputs)
+    NamesDenials (coming_to s event) event (outcome_of s event inputs)
 unfolding conduct dropping renewed
 denials_named s event inputs rises owned =
-    let names = draft_names s event inputs rises owned in
+    let names = draft_names (coming_to s event) event inputs (rising_at s (moment_told event) rises)
+    (owned_at s (moment_told event) owned) in
     record {
       replies = replies_named s event inputs names;
       response = names.response;

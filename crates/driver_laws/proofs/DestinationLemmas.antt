@@ -1,10 +1,13 @@
 -- Destinations are named exactly where the policy in force allows it.
-use Rattle.std.proofs.Common.{◌≡◌, ℕ, not, true, false, List, [], ◌∷◌, Result, Ok, Err, refl, ap, ◌∙◌}
-use Rattle.std.proofs.lemmas.Bool.{cond_both, eq-eqb}
+use Rattle.std.proofs.Common.{◌≡◌, ℕ, true, false, List, [], ◌∷◌, Ok, refl, ap, ◌∙◌}
+use Rattle.std.proofs.lemmas.Bool.{eq-eqb}
+use Rattle.std.proofs.lemmas.List.{append-nil}
 use Rattle.driver_core.specs.declared.event.Event.TheVariants.{Command}
 use Rattle.driver_core.specs.declared.event.Inputs.{Inputs}
 use Rattle.driver_core.specs.declared.refusal.Refusal.{Refusal}
 use Rattle.driver_core.specs.declared.refusal.Refusal.TheVariants.{Conflict, Denied, Full}
+use Rattle.driver_core.specs.declared.replies.Message.{Message}
+use Rattle.driver_core.specs.declared.replies.Reply.TheVariants.{OperationSuccess}
 use Rattle.driver_core.specs.Commands.{asked, at_request, command, heard, requested}
 use Rattle.driver_core.specs.Conduct.{conduct, drafted}
 use Rattle.driver_core.specs.Deciding.{decision_by}
@@ -13,21 +16,19 @@ use Rattle.driver_core.specs.Draft.{Draft, refused, replied, told}
 use Rattle.driver_core.specs.Pairs.{pairs_of}
 use Rattle.driver_core.specs.Renewal.{renewed}
 use Rattle.driver_core.specs.Requests.{AsksToDirect, DestinationRequest, destination_question}
-use Rattle.driver_core.specs.State.{State, at_moment}
+use Rattle.driver_core.specs.State.{State, at_moment, ruled}
+use Rattle.driver_core.specs.Unread.{dropping}
 use Rattle.driver_core.specs.Verdicts.{verdict_on}
 use Rattle.driver_laws.specs.DestinationLaws.{IsDirected, IsDirectedExactly}
 use Rattle.driver_laws.specs.GrantLaws.{IsRefusedOn, decided_on}
-use Rattle.driver_laws.specs.ImageLaws.{AreRead}
-use Rattle.destinations.specs.declared.fault.DestinationFault.{DestinationFault}
 use Rattle.destinations.specs.Destinations.{adding as naming, has, has_room}
 use Rattle.policy_core.specs.declared.decision.Decision.{Decision}
 use Rattle.policy_core.specs.declared.verdict.Verdict.{Verdict}
 use Rattle.driver_core.proofs.EventCases.{target_heard}
 use Rattle.driver_core.proofs.PairLemmas.{pairs_by, pairs_heard}
 use Rattle.driver_core.proofs.VerdictLemmas.{by_policy}
-use Rattle.driver_laws.proofs.GrantLemmas.{refused_change}
-use Rattle.driver_laws.proofs.RenewalLemmas.{ToldAsItIs, unchanged}
-use Rattle.driver_laws.proofs.StayingLemmas.{DropsNothing, as_before, drops_none, refused_drops}
+use Rattle.driver_laws.proofs.GrantLemmas.{asks_at, refused_change}
+use Rattle.driver_laws.proofs.TurningLemmas.{by_draft, turns_to}
 use Rattle.driver_laws.proofs.SubscribingLemmas.{found_number}
 
 -- ---- the request is decided on its target
@@ -131,52 +132,21 @@ directed_pairs s now handle request =
     pairs_by (grants (at_request s now handle) request).after (at_request s now handle) refl refl refl (λ n. refl)
     ∙ pairs_heard s now handle
 
-directed_drops : (s : State) (now handle : ℕ) (request : DestinationRequest) → AreRead s →
-    DropsNothing s (grants (at_request s now handle) request)
-unfolding directed with_destination replied told heard at_moment
-directed_drops s now handle request read = as_before s _ read refl refl (directed_pairs s now handle request)
-
-taken_drops : (s : State) (now handle : ℕ) (request : DestinationRequest) → AreRead s → (found : Result ℕ DestinationFault) →
-    DropsNothing s (
-    directed_as (at_request s now handle) request.client request.correlation
-    (added_on (decision_on (at_request s now handle) request) request.target request.channel found))
-taken_drops s now handle request read (Ok number) = directed_drops s now handle request read
-taken_drops s now handle request read (Err why) = refused_drops s now handle _ request.client.number request.correlation _ read
-
-directing_drops : (s : State) (now handle : ℕ) (request : DestinationRequest) → AreRead s →
-    DropsNothing s (directs (at_request s now handle) request)
-directing_drops s now handle request read =
-    let at = at_request s now handle in
-    cond_both (not (decision_on at request).verdict.allow) _ _
-    (λ found. DropsNothing s (directed_as at request.client request.correlation found))
-    (λ denies. refused_drops s now handle _ request.client.number request.correlation _ read)
-    (λ allows.
-    cond_both request.target.manual _ _
-    (λ found. DropsNothing s (directed_as at request.client request.correlation found))
-    (λ manual.
-    taken_drops s now handle request read (naming at.destinations request.target.source request.target.address))
-    (λ other. refused_drops s now handle _ request.client.number request.correlation _ read))
-
 -- ---- granted exactly
 
-closes_none : (s : State) (now handle : ℕ) (inputs : Inputs) (request : DestinationRequest) →
-    (renewed s inputs (grants (at_request s now handle) request)).outcome.closes ≡ []
-unfolding renewed directed replied told
-closes_none s now handle inputs request = refl
-
-directed_change : (s : State) (now handle : ℕ) (inputs : Inputs) (request : DestinationRequest) →
+directed_change : (before s : State) (now handle : ℕ) (inputs : Inputs) (request : DestinationRequest) →
     request.client.number ≡ handle →
-    IsDirected s now handle request (renewed s inputs (grants (at_request s now handle) request))
-unfolding directed with_destination decision_by replied told heard at_moment
-directed_change s now handle inputs request own =
+    IsDirected before s now handle inputs request (
+    dropping before (renewed before inputs (grants (at_request s now handle) request)))
+unfolding dropping renewed directed with_destination decision_by replied told heard at_moment
+directed_change before s now handle inputs request own =
     let draft : Draft = grants (at_request s now handle) request in
-    let as_it_is : ToldAsItIs draft (renewed s inputs draft) =
-    unchanged s inputs draft (directed_pairs s now handle request) in
+    let done : Message = record { client = handle; reply = OperationSuccess request.correlation } in
     record {
-      after_is = as_it_is.after;
-      told = as_it_is.replies ∙ rw own refl;
-      decided = as_it_is.decisions;
-      closes = closes_none s now handle inputs request;
+      after_is = refl;
+      turns = turns_to before inputs draft s refl (directed_pairs s now handle request);
+      told = rw own (ap (λ (others : List Message). done ∷ others) (append-nil _));
+      decided = refl;
     }
 
 verdict_is : (s : State) (now handle : ℕ) (request : DestinationRequest) →
@@ -193,56 +163,66 @@ destinations_heard : (s : State) (now handle : ℕ) → (at_request s now handle
 unfolding heard at_moment
 destinations_heard s now handle = refl
 
-refusal_change : (s : State) (now handle : ℕ) (inputs : Inputs) (request : DestinationRequest) (refusal : Refusal) →
+refusal_change : (before s : State) (now handle : ℕ) (inputs : Inputs) (request : DestinationRequest) (refusal : Refusal) →
     request.client.number ≡ handle →
-    IsRefusedOn s now handle request.correlation (destination_question request) refusal (
-    renewed s inputs (refuses (at_request s now handle) request refusal))
-refusal_change s now handle inputs request refusal own =
-    refused_change s now handle request.correlation inputs request.client (destination_question request) _ refusal own
+    IsRefusedOn before s now handle request.correlation inputs (destination_question request) refusal (
+    dropping before (renewed before inputs (refuses (at_request s now handle) request refusal)))
+refusal_change before s now handle inputs request refusal own =
+    refused_change before s now handle request.correlation inputs request.client (destination_question request) _ refusal own
     (decision_is s now handle request)
 
-denial_change : (s : State) (now handle : ℕ) (inputs : Inputs) (request : DestinationRequest) →
+denial_change : (before s : State) (now handle : ℕ) (inputs : Inputs) (request : DestinationRequest) →
     request.client.number ≡ handle →
-    IsRefusedOn s now handle request.correlation (destination_question request)
+    IsRefusedOn before s now handle request.correlation inputs (destination_question request)
     (Denied (verdict_on s (destination_question request))) (
-    renewed s inputs
-    (refuses (at_request s now handle) request (Denied (decision_on (at_request s now handle) request).verdict)))
+    dropping before (renewed before inputs
+    (refuses (at_request s now handle) request (Denied (decision_on (at_request s now handle) request).verdict))))
 unfolding decision_by heard at_moment
-denial_change s now handle inputs request own =
-    refusal_change s now handle inputs request (Denied (verdict_on s (destination_question request))) own
+denial_change before s now handle inputs request own =
+    refusal_change before s now handle inputs request (Denied (verdict_on s (destination_question request))) own
 
-by_verdict : (s : State) (now handle : ℕ) (inputs : Inputs) (request : DestinationRequest) →
+by_verdict : (before s : State) (now handle : ℕ) (inputs : Inputs) (request : DestinationRequest) →
     request.client.number ≡ handle →
-    IsDirectedExactly s now handle request (renewed s inputs (directs (at_request s now handle) request))
+    IsDirectedExactly before s now handle inputs request (
+    dropping before (renewed before inputs (directs (at_request s now handle) request)))
 unfolding heard at_moment
-by_verdict s now handle inputs request own =
+by_verdict before s now handle inputs request own =
     let left : State = at_request s now handle in
     let word = ap (λ (v : Verdict). v.allow) (verdict_is s now handle request) in
     record {
       by = by_policy s (destination_question request);
       granted = λ allows manual new room.
           rw (directing_grants left request (word ∙ allows) manual new room)
-          (directed_change s now handle inputs request own);
+          (directed_change before s now handle inputs request own);
       not_by_hand = λ allows manual.
           rw (other_conflicts left request (word ∙ allows) manual)
-          (refusal_change s now handle inputs request Conflict own);
+          (refusal_change before s now handle inputs request Conflict own);
       known = λ allows manual there.
           rw (known_conflicts left request (word ∙ allows) manual there)
-          (refusal_change s now handle inputs request Conflict own);
+          (refusal_change before s now handle inputs request Conflict own);
       full = λ allows manual new room.
           rw (full_refuses left request (word ∙ allows) manual new room)
-          (refusal_change s now handle inputs request Full own);
+          (refusal_change before s now handle inputs request Full own);
       denied = λ denies.
-          rw (directing_denies left request (word ∙ denies)) (denial_change s now handle inputs request own);
+          rw (directing_denies left request (word ∙ denies)) (denial_change before s now handle inputs request own);
     }
 
-pub directed_exactly : (s : State) → AreRead s → (now handle : ℕ) (bytes : List ℕ) (inputs : Inputs)
+-- the same client and channel, by the policy as it is at the moment of the event
+directs_at : (s : State) (now handle : ℕ) (bytes : List ℕ) (request : DestinationRequest) →
+    AsksToDirect s handle bytes request → AsksToDirect (ruled s now) handle bytes request
+unfolding ruled target_of own_log
+directs_at s now handle bytes request asks = record {
+  asks = asks_at s now handle bytes request.client request.correlation _ asks.asks;
+  denotes_channel = asks.denotes_channel;
+  names_target = asks.names_target;
+}
+
+pub directed_exactly : (s : State) (now handle : ℕ) (bytes : List ℕ) (inputs : Inputs)
     (request : DestinationRequest) → AsksToDirect s handle bytes request →
-    IsDirectedExactly s now handle request (conduct s (Command now handle bytes) inputs)
-unfolding conduct
-directed_exactly s read now handle bytes inputs request asks =
-    rw (
-      request_is_decided s now handle bytes inputs request asks,
-      drops_none s inputs (directs (at_request s now handle) request) (directing_drops s now handle request read),
-    )
-    (by_verdict s now handle inputs request (found_number s.clients.rows handle request.client asks.asks.attached))
+    IsDirectedExactly s (ruled s now) now handle inputs request (conduct s (Command now handle bytes) inputs)
+directed_exactly s now handle bytes inputs request asks =
+    by_draft (IsDirectedExactly s (ruled s now) now handle inputs request) s (Command now handle bytes) inputs
+    (directs (at_request (ruled s now) now handle) request)
+    (request_is_decided (ruled s now) now handle bytes inputs request (directs_at s now handle bytes request asks))
+    (by_verdict s (ruled s now) now handle inputs request
+    (found_number s.clients.rows handle request.client asks.asks.attached))

@@ -9,7 +9,7 @@ use Rattle.driver_core.specs.declared.event.Inputs.{Inputs}
 use Rattle.driver_core.specs.Attaching.{attached}
 use Rattle.driver_core.specs.Closing.{close, keep_alive}
 use Rattle.driver_core.specs.Commands.{at_request, heard}
-use Rattle.driver_core.specs.Conduct.{conduct, drafted, state_after}
+use Rattle.driver_core.specs.Conduct.{coming_to, conduct, drafted, state_after}
 use Rattle.driver_core.specs.Counting.{counted, uncounted, valued, with_counter}
 use Rattle.driver_core.specs.Deciding.{decision_by}
 use Rattle.driver_core.specs.Directing.{address_at, can_direct, destination_decision, directed, directed_by, directed_to, has_room_for_sole, is_taken, own_log, recalled, sole_address, target_of, with_destination, with_sole, without_destination}
@@ -20,7 +20,7 @@ use Rattle.driver_core.specs.Reloading.{in_force, reloaded}
 use Rattle.driver_core.specs.Renewal.{renewed}
 use Rattle.driver_core.specs.Requests.{AsksToDirect, AsksToPublish, DestinationRequest, PublicationRequest, destination_question, wanted_by}
 use Rattle.driver_core.specs.SettingUp.{image_made, with_image}
-use Rattle.driver_core.specs.State.{State, at_moment}
+use Rattle.driver_core.specs.State.{State, at_moment, ruled}
 use Rattle.driver_core.specs.Subscribing.{subscribed, with_subscription}
 use Rattle.driver_core.specs.Terminating.{stopped_for_good, terminated}
 use Rattle.driver_core.specs.Ticking.{closed_past, late, tick, ticked}
@@ -29,8 +29,7 @@ use Rattle.driver_core.specs.Unread.{dropping, without_unread}
 use Rattle.driver_core.specs.Unsubscribing.{unsubscribed}
 use Rattle.driver_core.specs.Verdicts.{verdict_on}
 use Rattle.driver_laws.specs.DestinationLaws.{EndpointsAreSentTo, IsAllowed as MayDirect, IsEndpoint, IsNamedBy, IsSoleBy, row_next}
-use Rattle.driver_laws.specs.ImageLaws.{AreRead}
-use Rattle.driver_laws.specs.PublishingLaws.{IsAllowed as MayPublish, IsPublishedExactly, IsRegisteredBy}
+use Rattle.driver_laws.specs.PublishingLaws.{IsAllowed as MayPublish, IsRegisteredBy}
 use Rattle.channel_uri.specs.declared.address.Address.{Address}
 use Rattle.channel_uri.specs.Address.{address_of}
 use Rattle.channel_uri.specs.Channel.{Shape}
@@ -48,9 +47,8 @@ use Rattle.stream_registry.specs.Adding.{adding_of}
 use Rattle.driver_core.proofs.EventCases.{Cases, attach_cases, command_cases, reload_cases, set_up_cases}
 use Rattle.driver_core.proofs.ListLemmas.{contains_none, left_was_there}
 use Rattle.driver_core.proofs.VerdictLemmas.{by_policy}
-use Rattle.driver_laws.proofs.PublishingLemmas.{adding_is, place_is, publication_verdict, published_exactly, room_is}
+use Rattle.driver_laws.proofs.PublishingLemmas.{adding_is, grants_is, place_is, publication_verdict, room_is}
 use Rattle.driver_laws.proofs.PublishingOnlyLemmas.{asks_before, registered_by}
-use Rattle.driver_laws.proofs.StayingLemmas.{images_read}
 use Rattle.driver_laws.proofs.SubscribingLemmas.{found_number}
 
 -- where the destinations of a registry come from
@@ -266,9 +264,10 @@ draft_comes s (Setup now local from setup) inputs =
 
 pub destinations_come : (s : State) (event : Event) (inputs : Inputs) (destination : Destination) →
     Contains (state_after s event inputs).destinations.rows destination →
-    Contains s.destinations.rows destination ⊎ (IsNamedBy s event destination ⊎ IsSoleBy s event destination)
-unfolding conduct renewed dropping without_unread
-destinations_come s event inputs = draft_comes s event inputs
+    Contains s.destinations.rows destination
+    ⊎ (IsNamedBy (coming_to s event) event destination ⊎ IsSoleBy (coming_to s event) event destination)
+unfolding conduct renewed dropping without_unread ruled
+destinations_come s event inputs = draft_comes (coming_to s event) event inputs
 
 -- ---- a log that is made for an endpoint has its destination
 
@@ -300,25 +299,25 @@ sole_is_named s principal client wanted session text address is found room =
     (sym sole)
     (taken_names s.destinations (s.last_number + 1) principal address wanted.channel (naming s.destinations (s.last_number + 1) address) taken)
 
-endpoint_is_named : (s : State) → AreRead s → (event : Event) (inputs : Inputs) (registration : Registration)
+-- what the event's own rule makes of a registry to which it comes
+endpoint_in_draft : (s : State) (event : Event) (inputs : Inputs) (registration : Registration)
     (registered : IsRegisteredBy s event registration) (session : ℤ) (address : Address) →
     registered.adding ≡ Make session → IsEndpoint registered.request address →
-    Contains (state_after s event inputs).destinations.rows
+    Contains (drafted s event inputs).after.destinations.rows
     (row_next s (s.last_number + 1) address registered.request.client.principal registered.request.channel)
-unfolding with_directed_publication
-endpoint_is_named s read event inputs registration registered session address makes endpoint =
+unfolding published with_directed_publication replied_opening replied told
+endpoint_in_draft s event inputs registration registered session address makes endpoint =
     let now : ℕ = registered.moment in
     let handle : ℕ = registration.client in
     let request : PublicationRequest = registered.request in
-    let exactly : IsPublishedExactly s now handle inputs request (conduct s (Command now handle registered.bytes) inputs) =
-    published_exactly s read now handle registered.bytes inputs request registered.asks in
-    let done = exactly.granted registered.adding registered.allowed registered.adding_is registered.room registered.placed in
-    let after : state_after s event inputs
-    ≡ with_directed_publication (at_request s now handle) request.client (wanted_by request) registered.adding =
-    ap (λ (e : Event). state_after s e inputs) registered.event_is ∙ done.after_is in
-    let named' : (state_after s event inputs).destinations
+    let draft : drafted s event inputs
+    ≡ published (at_request s now handle) request.client request.correlation (wanted_by request) registered.adding =
+    ap (λ (e : Event). drafted s e inputs) registered.event_is
+    ∙ grants_is s now handle registered.bytes inputs request registered.adding registered.asks registered.allowed
+    registered.adding_is registered.room registered.placed in
+    let named' : (drafted s event inputs).after.destinations
     ≡ with_sole s request.client.principal (wanted_by request) (Make session) =
-    ap (λ (t : State). t.destinations) after
+    ap (λ (d : Draft). d.after.destinations) draft
     ∙ ap (with_sole (at_request s now handle) request.client.principal (wanted_by request)) makes
     ∙ sole_heard s now handle request.client.principal (wanted_by request) (Make session) in
     let room : has_room_for_publication s handle (wanted_by request) (Make session) ≡ true =
@@ -330,5 +329,14 @@ endpoint_is_named s read event inputs registration registered session address ma
     (sole_is_named s request.client.principal handle (wanted_by request) session endpoint.text address endpoint.spot_is
     endpoint.address_is room)
 
+endpoint_is_named : (s : State) (event : Event) (inputs : Inputs) (registration : Registration)
+    (registered : IsRegisteredBy (coming_to s event) event registration) (session : ℤ) (address : Address) →
+    registered.adding ≡ Make session → IsEndpoint registered.request address →
+    Contains (state_after s event inputs).destinations.rows
+    (row_next s (s.last_number + 1) address registered.request.client.principal registered.request.channel)
+unfolding conduct renewed dropping without_unread ruled
+endpoint_is_named s event inputs registration registered session address makes endpoint =
+    endpoint_in_draft (coming_to s event) event inputs registration registered session address makes endpoint
+
 pub endpoints_sent : EndpointsAreSentTo
-endpoints_sent settings policy peers events = endpoint_is_named _ (images_read settings policy peers events)
+endpoints_sent settings policy peers events = endpoint_is_named _

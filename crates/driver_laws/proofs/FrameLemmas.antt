@@ -15,7 +15,7 @@ use Rattle.driver_core.specs.declared.settings.Settings.{Settings}
 use Rattle.driver_core.specs.Attaching.{attached}
 use Rattle.driver_core.specs.Closing.{close, keep_alive}
 use Rattle.driver_core.specs.Commands.{at_request, heard}
-use Rattle.driver_core.specs.Conduct.{conduct, drafted}
+use Rattle.driver_core.specs.Conduct.{coming_to, conduct, drafted}
 use Rattle.driver_core.specs.Counting.{counted, uncounted, valued}
 use Rattle.driver_core.specs.Directing.{directed, recalled}
 use Rattle.driver_core.specs.Draft.{Draft, answered as draft_answered, refused, replied, replied_opening, told}
@@ -28,7 +28,7 @@ use Rattle.driver_core.specs.Reloading.{reloaded}
 use Rattle.driver_core.specs.Renewal.{renewed, source_at}
 use Rattle.driver_core.specs.Requests.{wanted_by}
 use Rattle.driver_core.specs.SettingUp.{image_made}
-use Rattle.driver_core.specs.State.{State, at_moment, opened}
+use Rattle.driver_core.specs.State.{State, at_moment, opened, ruled}
 use Rattle.driver_core.specs.Subscribing.{subscribed}
 use Rattle.driver_core.specs.Terminating.{terminated}
 use Rattle.driver_core.specs.Ticking.{tick, ticked}
@@ -135,8 +135,8 @@ draft_opens s (SetUp now local from setup) inputs =
 
 event_opens : (s : State) (event : Event) (inputs : Inputs) (place : LogPlace) →
     (conduct s event inputs).outcome.opens ≡ Some place → place.source ≡ s.last_number + 1
-unfolding conduct renewed dropping
-event_opens s event inputs place is = draft_opens s event inputs place is
+unfolding conduct renewed dropping ruled
+event_opens s event inputs place is = draft_opens (coming_to s event) event inputs place is
 
 -- ---- logs whose frames are those
 

@@ -8,12 +8,12 @@ use Rattle.driver_core.specs.declared.event.Event.TheVariants.{Attach, Command, 
 use Rattle.driver_core.specs.declared.event.Inputs.{Inputs}
 use Rattle.driver_core.specs.Closing.{close}
 use Rattle.driver_core.specs.Commands.{heard, at_request}
-use Rattle.driver_core.specs.Conduct.{conduct, drafted, state_after}
+use Rattle.driver_core.specs.Conduct.{coming_to, conduct, drafted, moment_told, state_after}
 use Rattle.driver_core.specs.Draft.{replied, told}
 use Rattle.driver_core.specs.Leaving.{all_left, left}
 use Rattle.driver_core.specs.Renewal.{renewed}
 use Rattle.driver_core.specs.Requests.{Asks, termination_question}
-use Rattle.driver_core.specs.State.{State, at_moment}
+use Rattle.driver_core.specs.State.{State, at_moment, ruled}
 use Rattle.driver_core.specs.Terminating.{stopped_for_good, terminated}
 use Rattle.driver_core.specs.Ticking.{closed_past, late, tick, ticked}
 use Rattle.driver_core.specs.Verdicts.{verdict_on}
@@ -21,15 +21,20 @@ use Rattle.driver_core.specs.Unread.{dropping, is_closed, without_unread}
 use Rattle.driver_core.specs.Pairs.{pairs_of}
 use Rattle.driver_core.specs.Soundness.{log_of}
 use Rattle.driver_laws.specs.ClosingLaws.{Closes, ClosesOnly, IsLive, IsPastBy, IsSameLog, IsToldBy}
-use Rattle.driver_laws.specs.LeavingLaws.{IsGoneBy, IsTerminatedBy}
+use Rattle.driver_laws.specs.CounterLaws.{IsSetBy, IsStillThere}
+use Rattle.driver_laws.specs.GrantLaws.{IsCounterMadeBy}
+use Rattle.driver_laws.specs.LeavingLaws.{IsGoneBy, IsTerminatedBy, is_there}
 use Rattle.driver_laws.specs.NumberLaws.{AreRising}
+use Rattle.driver_laws.specs.RemovalLaws.{IsAskedBy}
 use Rattle.client_registry.specs.declared.client.Client.{Client}
 use Rattle.client_registry.specs.Clients.{heard_one, touched}
 use Rattle.command_codec.specs.declared.command.Body.TheVariants.{AddCounter as AddsCounter, ClientClose as ClosesItself, RemoveCounter as RemovesCounter, RemovePublication as Unpublishes, SetCounter as Sets, TerminateDriver as Terminates}
 use Rattle.command_codec.specs.declared.terminate_driver.TerminateDriver.{TerminateDriver}
+use Rattle.counters.specs.declared.counter.Counter.{Counter}
 use Rattle.policy_core.specs.declared.verdict.Verdict.{Verdict}
 use Rattle.policy_core.specs.RuleList.{Rules}
 use Rattle.stream_registry.specs.declared.lingering.LogPlace.{LogPlace}
+use Rattle.stream_registry.specs.declared.row.Registration.{Registration}
 use Rattle.stream_registry.specs.declared.row.Source.{Source}
 use Rattle.stream_registry.specs.Lingering.{closed, closing_of, is_closing, is_image_of, is_past, place_of, stays_live}
 use Rattle.stream_registry.specs.Origins.{lingering_since}
@@ -46,6 +51,7 @@ use Rattle.driver_laws.proofs.RemovalLemmas.{allowed_before, asks_the_same, clos
 use Rattle.driver_laws.proofs.SubscribingLemmas.{found_number}
 use Rattle.driver_laws.proofs.DroppingLemmas.{Found, found_of, passes_test}
 use Rattle.driver_laws.proofs.RisingLemmas.{rises_unique}
+use Rattle.driver_laws.proofs.TurningLemmas.{drawn, rising_at}
 use Rattle.driver_laws.proofs.KeepingLemmas.{ClientsStay, CountersStay, DraftCloses, IsSame, IsToldIn, Leaves, LogsStay, RegistrationsStay, ValuesStay, answer_stays, attached_stays, counter_stays, destination_removal_stays, destination_stays, image_alike, image_stays, keepalive_stays, moment_of, none_told, origin_kind, publication_stays, refusal_stays, reloaded_stays, removal_stays, subscription_stays, uncounted_stays, unpublished_stays, value_stays}
 
 module _ (inputs : Inputs) where
@@ -350,26 +356,36 @@ module _ (inputs : Inputs) where
 
 -- ---- the laws: renewing the pairs takes nothing away
 
-pub clients_go_only : (s : State) (event : Event) (inputs : Inputs) → ClientsStay s event (state_after s event inputs)
-unfolding conduct renewed dropping without_unread
-clients_go_only s event inputs = (leaves_all inputs s event).clients
+pub clients_go_only : (s : State) (event : Event) (inputs : Inputs) (client : ℕ) → is_there s client ≡ true →
+    (is_there (state_after s event inputs) client ≡ true) ⊎ IsGoneBy (coming_to s event) event client
+unfolding conduct renewed dropping without_unread ruled
+clients_go_only s event inputs = (leaves_all inputs (coming_to s event) event).clients
 
-pub registrations_go_only : (s : State) (event : Event) (inputs : Inputs) →
-    RegistrationsStay s event (state_after s event inputs)
-unfolding conduct renewed dropping without_unread without_unread_in drafted
-registrations_go_only s event inputs = (leaves_all inputs s event).registrations
+pub registrations_go_only : (s : State) (event : Event) (inputs : Inputs) (registration : Registration) →
+    Contains s.streams.registrations registration →
+    Contains (state_after s event inputs).streams.registrations registration
+    ⊎ (IsAskedBy (coming_to s event) event registration.client (Unpublishes (record { registration = registration.number }))
+    ⊎ IsGoneBy (coming_to s event) event registration.client)
+unfolding conduct renewed dropping without_unread without_unread_in ruled
+registrations_go_only s event inputs = (leaves_all inputs (coming_to s event) event).registrations
 
-pub counters_go_only : (s : State) (event : Event) (inputs : Inputs) → CountersStay s event (state_after s event inputs)
-unfolding conduct renewed dropping without_unread
+pub counters_go_only : (s : State) (event : Event) (inputs : Inputs) (counter : Counter) → Contains s.counters counter →
+    IsStillThere (state_after s event inputs) counter
+    ⊎ (IsAskedBy (coming_to s event) event counter.client (RemovesCounter (record { registration = counter.number }))
+    ⊎ IsGoneBy (coming_to s event) event counter.client)
+unfolding conduct renewed dropping without_unread ruled
 counters_go_only s event inputs counter has =
     ⊎_elim
     (λ still. inl (record { now = still.now; stands = still.stands; same = still.same }))
     (λ goes. inr goes)
-    ((leaves_all inputs s event).counters counter has)
+    ((leaves_all inputs (coming_to s event) event).counters counter has)
 
-pub counters_set_only : (s : State) (event : Event) (inputs : Inputs) → ValuesStay s event (state_after s event inputs)
-unfolding conduct renewed dropping without_unread
-counters_set_only s event inputs = (leaves_all inputs s event).values
+pub counters_set_only : (s : State) (event : Event) (inputs : Inputs) (counter : Counter) →
+    Contains (state_after s event inputs).counters counter →
+    Contains s.counters counter
+    ⊎ (IsSetBy (coming_to s event) event counter ⊎ IsCounterMadeBy (coming_to s event) event counter)
+unfolding conduct renewed dropping without_unread ruled
+counters_set_only s event inputs = (leaves_all inputs (coming_to s event) event).values
 
 -- an image is read or not, whether it lingers or not
 unread_as_log : (pairs : List Pair) (log : Source) → is_unread pairs (log_of log) ≡ is_unread pairs log
@@ -439,8 +455,8 @@ closes_by s event inputs log rises has closes =
     or_then false c is either = absurd (cc is)
 
 told_by : (s : State) (event : Event) (inputs : Inputs) (place : LogPlace) → AreRising s →
-    Contains (conduct s event inputs).outcome.closes place → IsToldBy s event inputs place
-unfolding conduct renewed dropping
+    Contains (drawn s event inputs).outcome.closes place → IsToldBy s event inputs place
+unfolding renewed dropping
 told_by s event inputs place rises has =
     let goes : Source → Bool = is_closed (renewed s inputs (drafted s event inputs)) in
     let image = from_map place_of (filter goes s.streams.sources) place has in
@@ -453,10 +469,11 @@ told_by s event inputs place rises has =
     }
 
 pub logs_close_only : (s : State) (event : Event) (inputs : Inputs) → AreRising s →
-    ClosesOnly s event inputs (conduct s event inputs)
-unfolding conduct renewed dropping
+    ClosesOnly (coming_to s event) event inputs (conduct s event inputs)
+unfolding conduct renewed dropping ruled
 logs_close_only s event inputs rises =
+    let at : State = coming_to s event in
     record {
-      live = live_or_closes s event inputs;
-      told = λ place has. told_by s event inputs place rises has;
+      live = live_or_closes at event inputs;
+      told = λ place has. told_by at event inputs place (rising_at s (moment_told event) rises) has;
     }

@@ -9,7 +9,7 @@ use Rattle.driver_core.specs.declared.event.Event.TheVariants.{Tick}
 use Rattle.driver_core.specs.declared.event.Inputs.{Inputs}
 use Rattle.driver_core.specs.Closing.{close}
 use Rattle.driver_core.specs.Commands.{heard, at_request}
-use Rattle.driver_core.specs.Conduct.{conduct, drafted, state_after}
+use Rattle.driver_core.specs.Conduct.{coming_to, conduct, drafted, state_after}
 use Rattle.driver_core.specs.Deciding.{decision_by}
 use Rattle.driver_core.specs.Draft.{replied, told}
 use Rattle.driver_core.specs.Leaving.{all_left, left}
@@ -198,13 +198,14 @@ kept_nothing s client nothing = record {
   counters = nothing.counters;
 }
 
-pub clients_gone : (s : State) (event : Event) (inputs : Inputs) (client : ℕ) → IsGoneBy s event client →
-    is_there (state_after s event inputs) client ≡ false
+pub clients_gone : (s : State) (event : Event) (inputs : Inputs) (client : ℕ) →
+    IsGoneBy (coming_to s event) event client → is_there (state_after s event inputs) client ≡ false
 unfolding conduct renewed dropping without_unread
-clients_gone s event inputs client goes = (gone_by s event inputs client goes).absent
+clients_gone s event inputs client goes = (gone_by (coming_to s event) event inputs client goes).absent
 
-pub rows_gone : (s : State) (event : Event) (inputs : Inputs) (client : ℕ) → IsGoneBy s event client →
-    HasNothing (state_after s event inputs) client
+pub rows_gone : (s : State) (event : Event) (inputs : Inputs) (client : ℕ) →
+    IsGoneBy (coming_to s event) event client → HasNothing (state_after s event inputs) client
 unfolding conduct renewed dropping
 rows_gone s event inputs client goes =
-    kept_nothing (drafted s event inputs).after client (gone_by s event inputs client goes).nothing
+    kept_nothing (drafted (coming_to s event) event inputs).after client
+    (gone_by (coming_to s event) event inputs client goes).nothing

@@ -1,5 +1,5 @@
 -- Counters and the end of the driver are granted exactly.
-use Rattle.std.proofs.Common.{◌≡◌, ℕ, ◌==◌, map, true, false, List, [], ◌∷◌, refl, ap, ◌∙◌}
+use Rattle.std.proofs.Common.{◌≡◌, ℕ, ◌==◌, ◌+◌, map, filter, true, false, List, [], ◌∷◌, refl, ap, ◌∙◌}
 use Rattle.std.proofs.lemmas.Bool.{eq-eqb}
 use Rattle.std.proofs.lemmas.List.{append-nil}
 use Rattle.std.specs.List.{Contains, flat_map, list_any}
@@ -8,23 +8,25 @@ use Rattle.driver_core.specs.declared.event.Event.TheVariants.{Command}
 use Rattle.driver_core.specs.declared.event.Inputs.{Inputs}
 use Rattle.driver_core.specs.declared.refusal.Refusal.{Refusal}
 use Rattle.driver_core.specs.declared.refusal.Refusal.TheVariants.{Denied, Full}
+use Rattle.driver_core.specs.declared.replies.Message.{Message}
+use Rattle.driver_core.specs.declared.replies.Reply.TheVariants.{CounterReady, Error}
 use Rattle.driver_core.specs.Commands.{heard, requested, asked, command, at_request}
 use Rattle.driver_core.specs.Conduct.{conduct, drafted}
 use Rattle.driver_core.specs.Counting.{add_counter, counted, with_counter, counter_decision, has_room_for_counter}
 use Rattle.driver_core.specs.Deciding.{decision_by}
 use Rattle.driver_core.specs.Draft.{Draft, told, replied, refused}
 use Rattle.driver_core.specs.Pairs.{pairs_of, lacking}
-use Rattle.driver_core.specs.Renewal.{renewed, images_told, images_decided, unavailable_for, decided_on as pair_decided_on}
+use Rattle.driver_core.specs.Renewal.{renewed, images_told, images_decided, come_to, gone_from, unavailable_for, decided_on as pair_decided_on}
 use Rattle.driver_core.specs.Requests.{Asks, counter_question, termination_question}
-use Rattle.driver_core.specs.State.{State, at_moment}
+use Rattle.driver_core.specs.State.{State, at_moment, ruled}
 use Rattle.driver_core.specs.Terminating.{terminate, terminated, termination_decision, stopped_for_good}
 use Rattle.driver_core.specs.Unread.{dropping, is_closed, without_unread}
 use Rattle.driver_core.specs.Verdicts.{verdict_on}
-use Rattle.driver_laws.specs.ImageLaws.{AreRead}
 use Rattle.driver_laws.specs.GrantLaws.{decided_on, IsRefusedOn, IsCounted, IsCountedExactly, IsTerminated, IsTerminatedExactly}
 use Rattle.client_registry.specs.declared.client.Client.{Client}
 use Rattle.client_registry.specs.Clients.{cleared, touched}
 use Rattle.command_codec.specs.declared.add_counter.AddCounter.{AddCounter}
+use Rattle.command_codec.specs.declared.command.Body.{Body}
 use Rattle.command_codec.specs.declared.command.Body.TheVariants.{AddCounter as AddsCounter, TerminateDriver as Terminates}
 use Rattle.command_codec.specs.declared.terminate_driver.TerminateDriver.{TerminateDriver}
 use Rattle.log_readers.specs.Unread.{without_unread as without_unread_in}
@@ -42,32 +44,33 @@ use Rattle.driver_core.proofs.VerdictLemmas.{by_policy}
 use Rattle.driver_core.proofs.PairLemmas.{pairs_by, pairs_heard}
 use Rattle.driver_laws.proofs.DroppingLemmas.{all_pass, is_any}
 use Rattle.driver_laws.proofs.ImageLemmas.{is_mapped}
-use Rattle.driver_laws.proofs.StayingLemmas.{add_counter_drops, drops_none, refused_drops}
 use Rattle.driver_laws.proofs.SubscribingLemmas.{found_number}
-use Rattle.driver_laws.proofs.RenewalLemmas.{ToldAsItIs, unchanged}
+use Rattle.driver_laws.proofs.TurningLemmas.{by_draft, sources_at, told_before, turns_to}
 
 -- a refusal changes no pair
-pub refused_change : (s : State) (now handle correlation : ℕ) (inputs : Inputs) (client : Client) (question : Question)
+pub refused_change : (before s : State) (now handle correlation : ℕ) (inputs : Inputs) (client : Client) (question : Question)
     (decision : Decision) (refusal : Refusal) → client.number ≡ handle → decision ≡ decided_on s question →
-    IsRefusedOn s now handle correlation question refusal (
-    renewed s inputs (refused (at_request s now handle) (decision ∷ []) client.number correlation refusal))
-unfolding refused replied told
-refused_change s now handle correlation inputs client question decision refusal own is =
+    IsRefusedOn before s now handle correlation inputs question refusal (
+    dropping before (renewed before inputs
+    (refused (at_request s now handle) (decision ∷ []) client.number correlation refusal)))
+unfolding dropping renewed refused replied told
+refused_change before s now handle correlation inputs client question decision refusal own is =
     let draft : Draft = refused (at_request s now handle) (decision ∷ []) client.number correlation refusal in
-    let as_it_is : ToldAsItIs draft (renewed s inputs draft) = unchanged s inputs draft (pairs_heard s now handle) in
     record {
-      after_is = as_it_is.after;
-      told = as_it_is.replies ∙ rw own refl;
-      decided = as_it_is.decisions ∙ rw is refl;
+      after_is = refl;
+      turns = turns_to before inputs draft s refl (pairs_heard s now handle);
+      told = told_before before inputs draft (record { client = handle; reply = Error correlation refusal }) (rw own refl) refl;
+      decided = ap (λ (d : Decision).
+          d ∷ images_decided (at_request s now handle) (gone_from before (at_request s now handle))
+          (come_to before (at_request s now handle))) is;
     }
 
 -- ---- counters
 
 counter_is_decided : (s : State) (now handle correlation : ℕ) (bytes : List ℕ) (inputs : Inputs) (client : Client)
     (fields : AddCounter) → Asks s handle bytes client correlation (AddsCounter fields) →
-    conduct s (Command now handle bytes) inputs
-    ≡ dropping s (renewed s inputs (add_counter (at_request s now handle) client correlation fields))
-unfolding conduct drafted command asked requested at_moment
+    drafted s (Command now handle bytes) inputs ≡ add_counter (at_request s now handle) client correlation fields
+unfolding drafted command asked requested at_moment
 counter_is_decided s now handle correlation bytes inputs client fields asks =
     rw (asks.command, eq-eqb handle handle refl, asks.attached) refl
 
@@ -100,19 +103,19 @@ counted_pairs s now handle client fields =
     pairs_by (with_counter (at_request s now handle) client fields) (at_request s now handle) refl refl refl (λ n. refl)
     ∙ pairs_heard s now handle
 
-counted_change : (s : State) (now handle correlation : ℕ) (inputs : Inputs) (client : Client) (fields : AddCounter) →
+counted_change : (before s : State) (now handle correlation : ℕ) (inputs : Inputs) (client : Client) (fields : AddCounter) →
     client.number ≡ handle →
-    IsCounted s now handle correlation client fields (
-    renewed s inputs (counted (at_request s now handle) client correlation fields))
-unfolding counted with_counter decision_by replied told heard at_moment
-counted_change s now handle correlation inputs client fields own =
+    IsCounted before s now handle correlation inputs client fields (
+    dropping before (renewed before inputs (counted (at_request s now handle) client correlation fields)))
+unfolding dropping renewed counted with_counter decision_by replied told heard at_moment
+counted_change before s now handle correlation inputs client fields own =
     let draft : Draft = counted (at_request s now handle) client correlation fields in
-    let as_it_is : ToldAsItIs draft (renewed s inputs draft) =
-    unchanged s inputs draft (counted_pairs s now handle client.number fields) in
+    let ready : Message = record { client = handle; reply = CounterReady correlation (s.last_number + 1) } in
     record {
-      after_is = as_it_is.after ∙ rw own refl;
-      told = as_it_is.replies ∙ rw own refl;
-      decided = as_it_is.decisions;
+      after_is = rw own refl;
+      turns = turns_to before inputs draft s refl (counted_pairs s now handle client.number fields);
+      told = rw own (ap (λ (others : List Message). ready ∷ others) (append-nil _));
+      decided = rw own refl;
     }
 
 pub counter_verdict : (s : State) (now handle : ℕ) (client : Client) (fields : AddCounter) →
@@ -129,67 +132,72 @@ counter_decided : (s : State) (now handle : ℕ) (client : Client) (fields : Add
 unfolding decision_by heard at_moment
 counter_decided s now handle client fields = refl
 
-counter_refused : (s : State) (now handle correlation : ℕ) (inputs : Inputs) (client : Client) (fields : AddCounter)
+counter_refused : (before s : State) (now handle correlation : ℕ) (inputs : Inputs) (client : Client) (fields : AddCounter)
     (refusal : Refusal) → client.number ≡ handle →
-    IsRefusedOn s now handle correlation (counter_question client fields) refusal (
-    renewed s inputs
+    IsRefusedOn before s now handle correlation inputs (counter_question client fields) refusal (
+    dropping before (renewed before inputs
     (refused (at_request s now handle) (counter_decision (at_request s now handle) client fields ∷ []) client.number
-    correlation refusal))
-counter_refused s now handle correlation inputs client fields refusal own =
-    refused_change s now handle correlation inputs client (counter_question client fields) _ refusal own
+    correlation refusal)))
+counter_refused before s now handle correlation inputs client fields refusal own =
+    refused_change before s now handle correlation inputs client (counter_question client fields) _ refusal own
     (counter_decided s now handle client fields)
 
-counter_denied : (s : State) (now handle correlation : ℕ) (inputs : Inputs) (client : Client) (fields : AddCounter) →
+counter_denied : (before s : State) (now handle correlation : ℕ) (inputs : Inputs) (client : Client) (fields : AddCounter) →
     client.number ≡ handle →
-    IsRefusedOn s now handle correlation (counter_question client fields)
+    IsRefusedOn before s now handle correlation inputs (counter_question client fields)
     (Denied (verdict_on s (counter_question client fields))) (
-    renewed s inputs
+    dropping before (renewed before inputs
     (refused (at_request s now handle) (counter_decision (at_request s now handle) client fields ∷ []) client.number
-    correlation (Denied (counter_decision (at_request s now handle) client fields).verdict)))
+    correlation (Denied (counter_decision (at_request s now handle) client fields).verdict))))
 unfolding decision_by heard at_moment
-counter_denied s now handle correlation inputs client fields own =
-    counter_refused s now handle correlation inputs client fields (Denied (verdict_on s (counter_question client fields))) own
+counter_denied before s now handle correlation inputs client fields own =
+    counter_refused before s now handle correlation inputs client fields
+    (Denied (verdict_on s (counter_question client fields))) own
 
-by_counter_verdict : (s : State) (now handle correlation : ℕ) (inputs : Inputs) (client : Client) (fields : AddCounter) →
+by_counter_verdict : (before s : State) (now handle correlation : ℕ) (inputs : Inputs) (client : Client) (fields : AddCounter) →
     client.number ≡ handle →
-    IsCountedExactly s now handle correlation client fields (
-    renewed s inputs (add_counter (at_request s now handle) client correlation fields))
-by_counter_verdict s now handle correlation inputs client fields own =
+    IsCountedExactly before s now handle correlation inputs client fields (
+    dropping before (renewed before inputs (add_counter (at_request s now handle) client correlation fields)))
+by_counter_verdict before s now handle correlation inputs client fields own =
     let word = ap (λ (v : Verdict). v.allow) (counter_verdict s now handle client fields) in
     record {
       by = by_policy s (counter_question client fields);
       granted = λ allows room.
           rw (counter_grants (at_request s now handle) client correlation fields (word ∙ allows)
           (counter_room s now handle ∙ room))
-          (counted_change s now handle correlation inputs client fields own);
+          (counted_change before s now handle correlation inputs client fields own);
       full = λ allows room.
           rw (counter_is_full (at_request s now handle) client correlation fields (word ∙ allows)
           (counter_room s now handle ∙ room))
-          (counter_refused s now handle correlation inputs client fields Full own);
+          (counter_refused before s now handle correlation inputs client fields Full own);
       denied = λ denies.
           rw (counter_denies (at_request s now handle) client correlation fields (word ∙ denies))
-          (counter_denied s now handle correlation inputs client fields own);
+          (counter_denied before s now handle correlation inputs client fields own);
     }
 
-pub counted_exactly : (s : State) → AreRead s → (now handle correlation : ℕ) (bytes : List ℕ) (inputs : Inputs) (client : Client)
+-- the same client and body, by the policy as it is at the moment of the event
+pub asks_at : (s : State) (now handle : ℕ) (bytes : List ℕ) (client : Client) (correlation : ℕ) (body : Body) →
+    Asks s handle bytes client correlation body → Asks (ruled s now) handle bytes client correlation body
+unfolding ruled
+asks_at s now handle bytes client correlation body asks = record { command = asks.command; attached = asks.attached }
+
+pub counted_exactly : (s : State) (now handle correlation : ℕ) (bytes : List ℕ) (inputs : Inputs) (client : Client)
     (fields : AddCounter) → Asks s handle bytes client correlation (AddsCounter fields) →
-    IsCountedExactly s now handle correlation client fields (conduct s (Command now handle bytes) inputs)
-counted_exactly s read now handle correlation bytes inputs client fields asks =
-    rw (
-      counter_is_decided s now handle correlation bytes inputs client fields asks,
-      drops_none s inputs (add_counter (at_request s now handle) client correlation fields)
-          (add_counter_drops s now handle client correlation fields read),
-    )
-    (by_counter_verdict s now handle correlation inputs client fields
+    IsCountedExactly s (ruled s now) now handle correlation inputs client fields (conduct s (Command now handle bytes) inputs)
+counted_exactly s now handle correlation bytes inputs client fields asks =
+    by_draft (IsCountedExactly s (ruled s now) now handle correlation inputs client fields) s (Command now handle bytes) inputs
+    (add_counter (at_request (ruled s now) now handle) client correlation fields)
+    (counter_is_decided (ruled s now) now handle correlation bytes inputs client fields
+    (asks_at s now handle bytes client correlation (AddsCounter fields) asks))
+    (by_counter_verdict s (ruled s now) now handle correlation inputs client fields
     (found_number s.clients.rows handle client asks.attached))
 
 -- ---- the end of the driver
 
 termination_is_decided : (s : State) (now handle correlation : ℕ) (bytes : List ℕ) (inputs : Inputs) (client : Client)
     (fields : TerminateDriver) → Asks s handle bytes client correlation (Terminates fields) →
-    conduct s (Command now handle bytes) inputs
-    ≡ dropping s (renewed s inputs (terminate (at_request s now handle) client correlation))
-unfolding conduct drafted command asked requested at_moment
+    drafted s (Command now handle bytes) inputs ≡ terminate (at_request s now handle) client correlation
+unfolding drafted command asked requested at_moment
 termination_is_decided s now handle correlation bytes inputs client fields asks =
     rw (asks.command, eq-eqb handle handle refl, asks.attached) refl
 
@@ -226,14 +234,15 @@ no_pairs : (s : State) → pairs_of (stopped_for_good s) ≡ []
 unfolding pairs_of pairs_on stopped_for_good
 no_pairs s = refl
 
-terminated_change : (s : State) (now handle correlation : ℕ) (inputs : Inputs) (client : Client) → client.number ≡ handle →
+terminated_change : (before s : State) (now handle correlation : ℕ) (inputs : Inputs) (client : Client) →
+    client.number ≡ handle →
     IsTerminated s now handle correlation client (
-    renewed s inputs (terminated (at_request s now handle) client correlation))
+    renewed before inputs (terminated (at_request s now handle) client correlation))
 unfolding renewed terminated stopped_for_good decision_by heard at_moment touched
-terminated_change s now handle correlation inputs client own =
+terminated_change before s now handle correlation inputs client own =
     let left = at_request s now handle in
     let none = no_pairs left in
-    let gone = lacking (pairs_of s) [] in
+    let gone = lacking (pairs_of before) [] in
     record {
       after_is = refl;
       told = rw (none, nothing_told left inputs gone, own) refl;
@@ -246,15 +255,16 @@ termination_verdict : (s : State) (now handle : ℕ) (client : Client) →
 unfolding decision_by heard at_moment
 termination_verdict s now handle client = refl
 
-termination_denied : (s : State) (now handle correlation : ℕ) (inputs : Inputs) (client : Client) → client.number ≡ handle →
-    IsRefusedOn s now handle correlation (termination_question client)
+termination_denied : (before s : State) (now handle correlation : ℕ) (inputs : Inputs) (client : Client) →
+    client.number ≡ handle →
+    IsRefusedOn before s now handle correlation inputs (termination_question client)
     (Denied (verdict_on s (termination_question client))) (
-    renewed s inputs
+    dropping before (renewed before inputs
     (refused (at_request s now handle) (termination_decision (at_request s now handle) client ∷ []) client.number
-    correlation (Denied (termination_decision (at_request s now handle) client).verdict)))
+    correlation (Denied (termination_decision (at_request s now handle) client).verdict))))
 unfolding decision_by heard at_moment
-termination_denied s now handle correlation inputs client own =
-    refused_change s now handle correlation inputs client (termination_question client)
+termination_denied before s now handle correlation inputs client own =
+    refused_change before s now handle correlation inputs client (termination_question client)
     (termination_decision (at_request s now handle) client) (Denied (verdict_on s (termination_question client))) own refl
 
 -- no log is left that could be an image
@@ -284,46 +294,45 @@ each_closes s change log closes has =
     (is_mapped place_of s.streams.sources log has) (eq-eqb log.number log.number refl) in
     rw (closes, told) refl
 
-still_terminated : (s : State) (now handle correlation : ℕ) (client : Client) (change : Change) →
-    IsTerminated s now handle correlation client change → IsTerminated s now handle correlation client (dropping s change)
+still_terminated : (before s : State) → before.streams.sources ≡ s.streams.sources →
+    (now handle correlation : ℕ) (client : Client) (change : Change) →
+    IsTerminated s now handle correlation client change →
+    IsTerminated s now handle correlation client (dropping before change)
 unfolding dropping
-still_terminated s now handle correlation client change ends = record {
+still_terminated before s logs now handle correlation client change ends = record {
   after_is = ap without_unread ends.after_is ∙ none_left s now;
   told = ends.told;
   decided = ends.decided;
-  closes = ap (map place_of)
+  closes = ap (λ (sources : List Source). map place_of (filter (is_closed change) sources)) logs
+      ∙ ap (map place_of)
       (all_pass (is_closed change) s.streams.sources (λ log has. each_closes s change log ends.closes has));
 }
 
-by_termination_verdict : (s : State) → AreRead s → (now handle correlation : ℕ) (inputs : Inputs) (client : Client) →
-    client.number ≡ handle →
-    IsTerminatedExactly s now handle correlation client (
-    dropping s (renewed s inputs (terminate (at_request s now handle) client correlation)))
-by_termination_verdict s read now handle correlation inputs client own =
+by_termination_verdict : (before s : State) → before.streams.sources ≡ s.streams.sources → (now handle correlation : ℕ)
+    (inputs : Inputs) (client : Client) → client.number ≡ handle →
+    IsTerminatedExactly before s now handle correlation inputs client (
+    dropping before (renewed before inputs (terminate (at_request s now handle) client correlation)))
+by_termination_verdict before s logs now handle correlation inputs client own =
     let word = ap (λ (v : Verdict). v.allow) (termination_verdict s now handle client) in
     record {
       by = by_policy s (termination_question client);
       granted = λ allows.
           rw (termination_grants (at_request s now handle) client correlation (word ∙ allows))
-          (still_terminated s now handle correlation client
-          (renewed s inputs (terminated (at_request s now handle) client correlation))
-          (terminated_change s now handle correlation inputs client own));
+          (still_terminated before s logs now handle correlation client
+          (renewed before inputs (terminated (at_request s now handle) client correlation))
+          (terminated_change before s now handle correlation inputs client own));
       denied = λ denies.
-          rw (
-            termination_denies (at_request s now handle) client correlation (word ∙ denies),
-            drops_none s inputs
-                (refused (at_request s now handle) (termination_decision (at_request s now handle) client ∷ []) client.number
-                correlation (Denied (termination_decision (at_request s now handle) client).verdict))
-                (refused_drops s now handle (termination_decision (at_request s now handle) client ∷ []) client.number
-                correlation (Denied (termination_decision (at_request s now handle) client).verdict) read),
-          )
-          (termination_denied s now handle correlation inputs client own);
+          rw (termination_denies (at_request s now handle) client correlation (word ∙ denies))
+          (termination_denied before s now handle correlation inputs client own);
     }
 
-pub terminated_exactly : (s : State) → AreRead s → (now handle correlation : ℕ) (bytes : List ℕ) (inputs : Inputs) (client : Client)
+pub terminated_exactly : (s : State) (now handle correlation : ℕ) (bytes : List ℕ) (inputs : Inputs) (client : Client)
     (fields : TerminateDriver) → Asks s handle bytes client correlation (Terminates fields) →
-    IsTerminatedExactly s now handle correlation client (conduct s (Command now handle bytes) inputs)
-terminated_exactly s read now handle correlation bytes inputs client fields asks =
-    rw (termination_is_decided s now handle correlation bytes inputs client fields asks)
-    (by_termination_verdict s read now handle correlation inputs client
+    IsTerminatedExactly s (ruled s now) now handle correlation inputs client (conduct s (Command now handle bytes) inputs)
+terminated_exactly s now handle correlation bytes inputs client fields asks =
+    by_draft (IsTerminatedExactly s (ruled s now) now handle correlation inputs client) s (Command now handle bytes) inputs
+    (terminate (at_request (ruled s now) now handle) client correlation)
+    (termination_is_decided (ruled s now) now handle correlation bytes inputs client fields
+    (asks_at s now handle bytes client correlation (Terminates fields) asks))
+    (by_termination_verdict s (ruled s now) (sources_at s now) now handle correlation inputs client
     (found_number s.clients.rows handle client asks.attached))

@@ -11,7 +11,7 @@ use Rattle.driver_core.specs.declared.refusal.Refusal.{Refusal}
 use Rattle.driver_core.specs.Attaching.{attached}
 use Rattle.driver_core.specs.Closing.{keep_alive, close}
 use Rattle.driver_core.specs.Commands.{heard, at_request}
-use Rattle.driver_core.specs.Conduct.{conduct, drafted}
+use Rattle.driver_core.specs.Conduct.{coming_to, conduct, drafted}
 use Rattle.driver_core.specs.Counting.{counted, with_counter, valued, uncounted, has_room_for_counter}
 use Rattle.driver_core.specs.Draft.{Draft, answered, told, replied, replied_opening, refused}
 use Rattle.driver_core.specs.Leaving.{left, all_left}
@@ -364,8 +364,8 @@ drafts_only s (Tick now) inputs = tick_only s now inputs
 drafts_only s (Setup now local from setup) inputs = set_up_only s now local from setup inputs
 
 pub counts_and_ends_only : (s : State) (event : Event) (inputs : Inputs) →
-    CountsAndEndsOnly s event (conduct s event inputs)
+    CountsAndEndsOnly (coming_to s event) event (conduct s event inputs)
 unfolding conduct renewed dropping without_unread
 counts_and_ends_only s event inputs =
-    let only = drafts_only s event inputs in
+    let only = drafts_only (coming_to s event) event inputs in
     record { counters = only.counters; ends = only.ends }

@@ -5,7 +5,7 @@ use Rattle.std.proofs.lemmas.Bool.{and_parts}
 use Rattle.std.proofs.lemmas.List.Elements.{All-append, All-contains, All-contains_itself, All-head, All-map, All-nil, All-tail, All-weaker, Contains-append_cases, Contains-append_left, Contains-append_right, Contains-push, filter_passes}
 use Rattle.driver_core.specs.declared.event.Event.{Event}
 use Rattle.driver_core.specs.declared.event.Inputs.{Inputs}
-use Rattle.driver_core.specs.Conduct.{conduct, drafted, state_after}
+use Rattle.driver_core.specs.Conduct.{coming_to, conduct, drafted, moment_told, state_after}
 use Rattle.driver_core.specs.Pairs.{lacking, pairs_of}
 use Rattle.driver_core.specs.Renewal.{come_to, gone_from, renewed}
 use Rattle.driver_core.specs.State.{State}
@@ -23,17 +23,18 @@ use Rattle.driver_core.proofs.ListLemmas.{contains_none, left_was_there, only_on
 use Rattle.driver_core.proofs.VerdictLemmas.{by_policy}
 use Rattle.driver_laws.proofs.DroppingLemmas.{pairs_stay}
 use Rattle.driver_laws.proofs.NumberLemmas.{draft_rises}
+use Rattle.driver_laws.proofs.TurningLemmas.{rising_at}
 
 -- ---- what a map and a flat map have
 
-all_parts : {X Y : Type 0} (P : Y → Type 0) (parts : X → List Y) (xs : List X) → All (λ x. All P (parts x)) xs →
+pub all_parts : {X Y : Type 0} (P : Y → Type 0) (parts : X → List Y) (xs : List X) → All (λ x. All P (parts x)) xs →
     All P (flat_map parts xs)
 all_parts P parts [] each = All-nil P
 all_parts P parts (x ∷ xs) each =
     All-append P (parts x) (flat_map parts xs) (All-head (λ y. All P (parts y)) x xs each)
     (all_parts P parts xs (All-tail (λ y. All P (parts y)) x xs each))
 
-in_part : {X Y : Type 0} (parts : X → List Y) (xs : List X) (x : X) (y : Y) → Contains xs x → Contains (parts x) y →
+pub in_part : {X Y : Type 0} (parts : X → List Y) (xs : List X) (x : X) (y : Y) → Contains xs x → Contains (parts x) y →
     Contains (flat_map parts xs) y
 in_part parts [] x y there has = absurd (contains_none x there)
 in_part parts (z ∷ zs) x y there has =
@@ -134,18 +135,19 @@ has_pair s log subscription reads =
 
 -- what the event's own rule leaves has the same pairs as what the event leaves
 pairs_behind : (s : State) (event : Event) (inputs : Inputs) → AreRising s →
-    pairs_of (state_after s event inputs) ≡ pairs_of (drafted s event inputs).after
+    pairs_of (state_after s event inputs) ≡ pairs_of (drafted (coming_to s event) event inputs).after
 unfolding conduct renewed dropping
 pairs_behind s event inputs rises =
-    pairs_stay (drafted s event inputs).after (draft_rises s event inputs rises).rises
+    let at : State = coming_to s event in
+    pairs_stay (drafted at event inputs).after (draft_rises at event inputs (rising_at s (moment_told event) rises)).rises
 
 gone_is : (s : State) (event : Event) (inputs : Inputs) →
-    (conduct s event inputs).outcome.gone ≡ gone_from s (drafted s event inputs).after
+    (conduct s event inputs).outcome.gone ≡ gone_from s (drafted (coming_to s event) event inputs).after
 unfolding conduct renewed dropping
 gone_is s event inputs = refl
 
 come_is : (s : State) (event : Event) (inputs : Inputs) →
-    (conduct s event inputs).outcome.come ≡ come_to s (drafted s event inputs).after
+    (conduct s event inputs).outcome.come ≡ come_to s (drafted (coming_to s event) event inputs).after
 unfolding conduct renewed dropping
 come_is s event inputs = refl
 

@@ -16,7 +16,7 @@ use Rattle.driver_core.specs.declared.replies.Message.{Message}
 use Rattle.driver_core.specs.declared.replies.Reply.{Reply}
 use Rattle.driver_core.specs.Attaching.{attached}
 use Rattle.driver_core.specs.Closing.{close, keep_alive}
-use Rattle.driver_core.specs.Conduct.{conduct, drafted}
+use Rattle.driver_core.specs.Conduct.{coming_to, conduct, drafted}
 use Rattle.driver_core.specs.Counting.{counted, uncounted, valued}
 use Rattle.driver_core.specs.Draft.{Draft, answered, refused, replied, replied_opening, told}
 use Rattle.driver_core.specs.Leaving.{all_left}
@@ -493,6 +493,6 @@ pub images_told_exactly : (s : State) (event : Event) (inputs : Inputs) →
     TellsImagesExactly inputs (conduct s event inputs)
 unfolding conduct
 images_told_exactly s event inputs =
-    let draft : Draft = drafted s event inputs in
+    let draft : Draft = drafted (coming_to s event) event inputs in
     still_told s inputs (renewed s inputs draft) (came_there s inputs draft)
-    (draft_tells s inputs draft (draft_tells_none s event inputs))
+    (draft_tells s inputs draft (draft_tells_none (coming_to s event) event inputs))

@@ -2,6 +2,7 @@ pub mod ActLemmas
 pub mod ApartLemmas
 pub mod AttachingLemmas
 pub mod BlankLemmas
+pub mod CachedLemmas
 pub mod ClientComingLemmas
 pub mod ClosedLogLemmas
 pub mod ClosingLemmas
@@ -13,6 +14,7 @@ pub mod DenialTextLemmas
 pub mod DestinationLemmas
 pub mod DestinationOnlyLemmas
 pub mod DroppingLemmas
+pub mod EverLemmas
 pub mod EveryLemmas
 pub mod FrameLemmas
 pub mod GoingLemmas
@@ -29,6 +31,7 @@ pub mod LeftLemmas
 pub mod LimitLemmas
 pub mod ListingLemmas
 pub mod LoggedLemmas
+pub mod MomentLemmas
 pub mod NamedLemmas
 pub mod NewLogLemmas
 pub mod NewNumberLemmas
@@ -40,11 +43,13 @@ pub mod OlderNakLemmas
 pub mod OlderSendLemmas
 pub mod OwnerLemmas
 pub mod PairCountLemmas
+pub mod ProspectLemmas
 pub mod PublicationLemmas
 pub mod PublishingLemmas
 pub mod PublishingOnlyLemmas
 pub mod ReadWidthLemmas
 pub mod RefusalLemmas
+pub mod RefusedLemmas
 pub mod ReloadLemmas
 pub mod RemovalLemmas
 pub mod RemovedExactlyLemmas
@@ -57,6 +62,7 @@ pub mod SettingUpLemmas
 pub mod StayingLemmas
 pub mod SubscribingLemmas
 pub mod SubscribingOnlyLemmas
+pub mod TurningLemmas
 pub mod UniqueImageLemmas
 pub mod UniquePublicationLemmas
 pub mod WellLemmas

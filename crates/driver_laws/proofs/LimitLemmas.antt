@@ -1,5 +1,5 @@
 -- No event makes a list grow past its limit.
-use Rattle.std.proofs.Common.{◌≡◌, ℕ, ◌+◌, ◌<◌, ◌≤◌, Bool, true, List, [], ◌∷◌, ◌++◌, length, map, filter, not, Ok, refl, arith}
+use Rattle.std.proofs.Common.{◌≡◌, ℕ, ◌+◌, ◌<◌, ◌≤◌, max, Bool, true, List, [], ◌∷◌, ◌++◌, length, map, filter, not, Ok, refl, arith}
 use Rattle.std.proofs.lemmas.Bool.{and_parts, cond_both, leb-true, ltb-true}
 use Rattle.std.proofs.lemmas.List.{length-append, length-map}
 use Rattle.std.proofs.lemmas.List.Filters.{length-filter_both}
@@ -14,16 +14,17 @@ use Rattle.driver_core.specs.declared.settings.Settings.{Settings}
 use Rattle.driver_core.specs.Attaching.{attach, attached}
 use Rattle.driver_core.specs.Closing.{close, keep_alive}
 use Rattle.driver_core.specs.Commands.{heard, at_request}
-use Rattle.driver_core.specs.Conduct.{conduct, drafted, state_after}
+use Rattle.driver_core.specs.Conduct.{coming_to, conduct, drafted, moment_told, state_after, state_of}
 use Rattle.driver_core.specs.Counting.{counted, has_room_for_counter, uncounted, valued, with_counter}
 use Rattle.driver_core.specs.Draft.{Draft, answered, refused, replied, replied_opening, told}
 use Rattle.driver_core.specs.Leaving.{all_left, left}
-use Rattle.driver_core.specs.Pairs.{is_within_pairs, pairs_of}
+use Rattle.driver_core.specs.Looking.{IsAtItsMoment}
+use Rattle.driver_core.specs.Pairs.{is_within_pairs, prospects_of}
 use Rattle.driver_core.specs.Publishing.{has_room_for_publication, published, with_directed_publication, with_publication}
 use Rattle.driver_core.specs.Reloading.{has_room_for_policy, in_force, reloaded}
 use Rattle.driver_core.specs.Renewal.{renewed}
 use Rattle.driver_core.specs.Requests.{RemovalRequest, SubscriptionRequest, wanted_by}
-use Rattle.driver_core.specs.State.{State, at_moment, opened}
+use Rattle.driver_core.specs.State.{State, at_moment, opened, ruled}
 use Rattle.driver_core.specs.Subscribing.{has_room_for_subscription, subscribed, with_subscription}
 use Rattle.driver_core.specs.Terminating.{stopped_for_good, terminated}
 use Rattle.driver_core.specs.Ticking.{closed_past, late, tick, ticked}
@@ -46,17 +47,19 @@ use Rattle.stream_registry.specs.Lingering.{closed}
 use Rattle.stream_registry.specs.declared.wanted.Wanted.{Wanted}
 use Rattle.stream_registry.specs.Adding.{adding_of}
 use Rattle.stream_registry.specs.LimitLaws.{IsWithinLimits as StreamsAreWithin}
-use Rattle.stream_registry.specs.Pairs.{pairs_of as pairs_on}
+use Rattle.stream_registry.specs.Pairs.{prospects_of as prospects_on}
 use Rattle.stream_registry.specs.declared.wanted.ImageWanted.{ImageWanted}
 use Rattle.log_readers.specs.Unread.{is_kept, without_unread as without_unread_in}
 use Rattle.stream_registry.proofs.FewLemmas.{kept_few}
 use Rattle.stream_registry.proofs.LimitLemmas.{stays_within_limits}
 use Rattle.driver_core.proofs.EventCases.{Cases, command_cases, reload_cases, set_up_cases}
-use Rattle.driver_core.proofs.PairLemmas.{pairs_heard}
+use Rattle.driver_core.proofs.MomentLemmas.{event_timely, opened_timely}
+use Rattle.driver_core.proofs.PairLemmas.{principal_heard, prospects_by}
 use Rattle.driver_core.proofs.SettingLemmas.{is_set}
 use Rattle.driver_laws.proofs.EveryLemmas.{after_any}
 use Rattle.driver_laws.proofs.OwnerLemmas.{opened_owned, stay_owned}
-use Rattle.driver_laws.proofs.PairCountLemmas.{HasNoMorePairs, pairs_attached, pairs_closed, pairs_left, pairs_unread, pairs_unregistered, pairs_unsubscribed}
+use Rattle.driver_laws.proofs.PairCountLemmas.{HasNoMoreProspects, pairs_are_prospects, prospects_attached, prospects_closed, prospects_left, prospects_ruled, prospects_unread, prospects_unregistered, prospects_unsubscribed}
+use Rattle.driver_laws.proofs.TurningLemmas.{owned_at}
 
 -- ---- the lists
 
@@ -64,7 +67,7 @@ pub record IsWithin (s : State) : Type 0 where
   pub clients : length s.clients.rows ≤ 64
   pub streams : StreamsAreWithin s.streams
   pub counters : length s.counters ≤ 1024
-  pub pairs : length (pairs_of s) ≤ 4096
+  pub prospects : length (prospects_of s) ≤ 4096
 
 one_more : {A : Type 0} (rows : List A) (row : A) (limit : ℕ) → length rows < limit → length (rows ++ row ∷ []) ≤ limit
 one_more rows row limit few =
@@ -84,12 +87,13 @@ as_many change rows limit few =
     let same : length (map change rows) ≡ length rows = length-map rows change in
     omega (arith, same, few)
 
-no_more : (s after : State) → HasNoMorePairs s after → length (pairs_of s) ≤ 4096 → length (pairs_of after) ≤ 4096
+no_more : (s after : State) → HasNoMoreProspects s after → length (prospects_of s) ≤ 4096 →
+    length (prospects_of after) ≤ 4096
 no_more s after fewer' few = omega (arith, fewer', few)
 
-within_pairs : (s : State) → is_within_pairs s ≡ true → length (pairs_of s) ≤ 4096
+within_pairs : (s : State) → is_within_pairs s ≡ true → length (prospects_of s) ≤ 4096
 unfolding is_within_pairs
-within_pairs s room = leb-true (length (pairs_of s)) 4096 room
+within_pairs s room = leb-true (length (prospects_of s)) 4096 room
 
 -- ---- what changes no row
 
@@ -115,8 +119,8 @@ attached_within s principal owned room within = record {
   clients = one_more s.clients.rows _ 64 (ltb-true (length s.clients.rows) 64 (and_parts _ _ room).0);
   streams = within.streams;
   counters = within.counters;
-  pairs = no_more s (record s { clients = admitted s.clients principal s.moment }) (pairs_attached s principal owned)
-      within.pairs;
+  prospects = no_more s (record s { clients = admitted s.clients principal s.moment }) (prospects_attached s principal owned)
+      within.prospects;
 }
 
 subscription_within : (s : State) (request : SubscriptionRequest) →
@@ -131,30 +135,30 @@ subscription_within s request room within =
       streams = stays_within_limits.subscribed s.streams (s.last_number + 1) request.client.number request.channel
           request.fields.stream within.streams lists.1;
       counters = within.counters;
-      pairs = within_pairs (with_subscription s request.client.number request.channel request.fields.stream) parts.1;
+      prospects = within_pairs (with_subscription s request.client.number request.channel request.fields.stream) parts.1;
     }
 
 publication_within : (s : State) (client : Client) (correlation : ℕ) (wanted : Wanted) (adding : Adding) →
     adding_of s.streams wanted ≡ Ok adding → has_room_for_publication s client.number wanted adding ≡ true → IsWithin s →
     IsWithin (published s client correlation wanted adding).after
-unfolding published with_directed_publication with_publication replied_opening replied told pairs_of
+unfolding published with_directed_publication with_publication replied_opening replied told prospects_of
 publication_within s client correlation wanted adding is room within =
     let parts = and_parts _ _ room in
     record {
       clients = within.clients;
       streams = stays_within_limits.added s.streams (s.last_number + 1) client.number _ wanted adding within.streams is;
       counters = within.counters;
-      pairs = within_pairs (with_publication s client.number wanted adding) parts.1;
+      prospects = within_pairs (with_publication s client.number wanted adding) parts.1;
     }
 
 counter_within : (s : State) (client : Client) (correlation : ℕ) (fields : AddCounter) →
     has_room_for_counter s ≡ true → IsWithin s → IsWithin (counted s client correlation fields).after
-unfolding counted with_counter replied told pairs_of
+unfolding counted with_counter replied told prospects_of
 counter_within s client correlation fields room within = record {
   clients = within.clients;
   streams = within.streams;
   counters = one_more s.counters _ 1024 (ltb-true (length s.counters) 1024 (and_parts _ _ room).0);
-  pairs = within.pairs;
+  prospects = within.prospects;
 }
 
 reloaded_within : (s : State) (policy : Rules) → has_room_for_policy s policy ≡ true → IsWithin s →
@@ -164,49 +168,49 @@ reloaded_within s policy room within = record {
   clients = within.clients;
   streams = within.streams;
   counters = within.counters;
-  pairs = within_pairs (in_force s policy) (and_parts _ _ room).0;
+  prospects = within_pairs (in_force s policy) (and_parts _ _ room).0;
 }
 
 -- ---- what goes, or has another value
 
 value_within : (s : State) (client : Client) (correlation : ℕ) (fields : SetCounter) → IsWithin s →
     IsWithin (valued s client correlation fields).after
-unfolding valued replied told set pairs_of
+unfolding valued replied told set prospects_of
 value_within s client correlation fields within = record {
   clients = within.clients;
   streams = within.streams;
   counters = as_many (set_one client.number fields.registration fields.value) s.counters 1024 within.counters;
-  pairs = within.pairs;
+  prospects = within.prospects;
 }
 
 destination_within : (s : State) (client : Client) (correlation : ℕ) (granted : _) → IsWithin s →
     IsWithin (directed s client correlation granted).after
-unfolding directed with_destination replied told pairs_of
+unfolding directed with_destination replied told prospects_of
 destination_within s client correlation granted within = record {
   clients = within.clients;
   streams = within.streams;
   counters = within.counters;
-  pairs = within.pairs;
+  prospects = within.prospects;
 }
 
 destination_removal_within : (s : State) (client : Client) (correlation : ℕ) (target : _) → IsWithin s →
     IsWithin (recalled s client correlation target).after
-unfolding recalled without_destination replied told pairs_of
+unfolding recalled without_destination replied told prospects_of
 destination_removal_within s client correlation target within = record {
   clients = within.clients;
   streams = within.streams;
   counters = within.counters;
-  pairs = within.pairs;
+  prospects = within.prospects;
 }
 
 counter_removal_within : (s : State) (client : Client) (correlation number : ℕ) → IsWithin s →
     IsWithin (uncounted s client correlation number).after
-unfolding uncounted told counters_without pairs_of
+unfolding uncounted told counters_without prospects_of
 counter_removal_within s client correlation number within = record {
   clients = within.clients;
   streams = within.streams;
   counters = fewer (is_another client.number number) s.counters 1024 within.counters;
-  pairs = within.pairs;
+  prospects = within.prospects;
 }
 
 removal_within : (s : State) (request : RemovalRequest) → IsWithin s →
@@ -216,7 +220,7 @@ removal_within s request within = record {
   clients = within.clients;
   streams = stays_within_limits.unsubscribed s.streams request.client.number request.fields.registration within.streams;
   counters = within.counters;
-  pairs = no_more s _ (pairs_unsubscribed s request.client.number request.fields.registration) within.pairs;
+  prospects = no_more s _ (prospects_unsubscribed s request.client.number request.fields.registration) within.prospects;
 }
 
 publication_removal_within : (s : State) (client : Client) (correlation number : ℕ) → IsWithin s →
@@ -226,7 +230,7 @@ publication_removal_within s client correlation number within = record {
   clients = within.clients;
   streams = stays_within_limits.unregistered s.streams client.number number s.moment within.streams;
   counters = within.counters;
-  pairs = rw (pairs_unregistered s client.number number s.moment) within.pairs;
+  prospects = rw (prospects_unregistered s client.number number s.moment) within.prospects;
 }
 
 one_left_within : (s : State) (client : ℕ) → IsWithin s → IsWithin (left s client)
@@ -235,7 +239,7 @@ one_left_within s client within = record {
   clients = fewer (is_other client) s.clients.rows 64 within.clients;
   streams = stays_within_limits.left s.streams client s.moment within.streams;
   counters = fewer (is_of_another client) s.counters 1024 within.counters;
-  pairs = no_more s (left s client) (pairs_left s client) within.pairs;
+  prospects = no_more s (left s client) (prospects_left s client) within.prospects;
 }
 
 closing_within : (s : State) (client : Client) (correlation : ℕ) → IsWithin s →
@@ -248,12 +252,12 @@ all_left_within s [] within = within
 all_left_within s (client ∷ clients) within = all_left_within (left s client) clients (one_left_within s client within)
 
 ticked_within : (s : State) (clients silent : List ℕ) → IsWithin s → IsWithin (ticked s clients silent).after
-unfolding ticked closed_past pairs_of
+unfolding ticked closed_past prospects_of
 ticked_within s clients silent within = record {
   clients = within.clients;
   streams = stays_within_limits.closed s.streams s.moment silent within.streams;
   counters = within.counters;
-  pairs = no_more s (record s { streams = closed s.streams s.moment silent }) (pairs_closed s s.moment silent) within.pairs;
+  prospects = no_more s (record s { streams = closed s.streams s.moment silent }) (prospects_closed s s.moment silent) within.prospects;
 }
 
 tick_within : (s : State) (silent : List ℕ) → IsWithin s → IsWithin (tick s silent).after
@@ -269,7 +273,7 @@ image_within s wanted place set within =
       clients = within.clients;
       streams = stays_within_limits.imaged s.streams (s.last_number + 1) _ wanted within.streams parts.0;
       counters = within.counters;
-      pairs = within_pairs (with_image s wanted) (and_parts _ _ parts.1).1;
+      prospects = within_pairs (with_image s wanted) (and_parts _ _ parts.1).1;
     }
 
 unread_within : (s : State) → IsWithin s → IsWithin (without_unread s)
@@ -282,28 +286,28 @@ unread_within s within = record {
     subscriptions = within.streams.subscriptions;
   };
   counters = within.counters;
-  pairs = no_more s (without_unread s) (pairs_unread s) within.pairs;
+  prospects = no_more s (without_unread s) (prospects_unread s) within.prospects;
 }
 
 termination_within : (s : State) (client : Client) (correlation : ℕ) → IsWithin s →
     IsWithin (terminated s client correlation).after
-unfolding terminated stopped_for_good pairs_of pairs_on
+unfolding terminated stopped_for_good prospects_of prospects_on
 termination_within s client correlation within = record {
   clients = omega arith;
   streams = stays_within_limits.cleared s.streams within.streams;
   counters = omega arith;
-  pairs = omega arith;
+  prospects = omega arith;
 }
 
 -- ---- each event
 
 moment_within : (s : State) (now : ℕ) → IsWithin s → IsWithin (at_moment s now)
-unfolding at_moment pairs_of
+unfolding at_moment prospects_of
 moment_within s now within = record {
   clients = within.clients;
   streams = within.streams;
   counters = within.counters;
-  pairs = within.pairs;
+  prospects = within.prospects;
 }
 
 moment_owned : (s : State) (now : ℕ) → HaveTheirClients s → HaveTheirClients (at_moment s now)
@@ -314,9 +318,14 @@ moment_owned s now owned = record {
   counters = owned.counters;
 }
 
-pairs_at_request : (s : State) (now handle : ℕ) → length (pairs_of s) ≤ 4096 →
-    length (pairs_of (at_request s now handle)) ≤ 4096
-pairs_at_request s now handle few = rw (pairs_heard s now handle) few
+prospects_heard : (s : State) (now handle : ℕ) → prospects_of (at_request s now handle) ≡ prospects_of s
+unfolding heard at_moment touched
+prospects_heard s now handle =
+    prospects_by (at_request s now handle) s refl refl refl refl (principal_heard s.clients.rows handle (max s.moment now))
+
+prospects_at_request : (s : State) (now handle : ℕ) → length (prospects_of s) ≤ 4096 →
+    length (prospects_of (at_request s now handle)) ≤ 4096
+prospects_at_request s now handle few = rw (prospects_heard s now handle) few
 
 request_within : (s : State) (now handle : ℕ) → IsWithin s → IsWithin (at_request s now handle)
 unfolding heard at_moment touched
@@ -324,7 +333,7 @@ request_within s now handle within = record {
   clients = as_many _ s.clients.rows 64 within.clients;
   streams = within.streams;
   counters = within.counters;
-  pairs = pairs_at_request s now handle within.pairs;
+  prospects = prospects_at_request s now handle within.prospects;
 }
 
 abbrev DraftWithin : Draft → Type 0
@@ -390,38 +399,57 @@ draft_within s (Setup now local from setup) inputs owned within =
     set_up_cases DraftWithin before local from setup (λ fault. answer_within before _ moved)
     (λ join place is set. image_within before _ place set moved)
 
-pub event_within : (s : State) (event : Event) (inputs : Inputs) → HaveTheirClients s → IsWithin s →
+-- a moment brings none that is not counted already
+ruled_within : (s : State) (now : ℕ) → IsAtItsMoment s → IsWithin s → IsWithin (ruled s now)
+unfolding ruled
+ruled_within s now timely within = record {
+  clients = within.clients;
+  streams = within.streams;
+  counters = within.counters;
+  prospects = no_more s (ruled s now) (prospects_ruled s now timely) within.prospects;
+}
+
+pub event_within : (s : State) (event : Event) (inputs : Inputs) → IsAtItsMoment s → HaveTheirClients s → IsWithin s →
     IsWithin (state_after s event inputs)
 unfolding conduct renewed dropping
-event_within s event inputs owned within =
-    unread_within (drafted s event inputs).after (draft_within s event inputs owned within)
+event_within s event inputs timely owned within =
+    let at : State = coming_to s event in
+    unread_within (drafted at event inputs).after
+    (draft_within at event inputs (owned_at s (moment_told event) owned) (ruled_within s (moment_told event) timely within))
 
 -- ---- every registry
 
 pub opened_within : (settings : Settings) (policy : Rules) (peers : List Peer) → IsWithin (opened settings policy peers)
-unfolding opened pairs_of pairs_on
+unfolding opened prospects_of prospects_on
 opened_within settings policy peers = record {
   clients = omega arith;
   streams = stays_within_limits.opened _ _;
   counters = omega arith;
-  pairs = omega arith;
+  prospects = omega arith;
 }
 
 -- a client that comes makes no pair, since no subscription is of one that is not there
-both_within : AfterAnyEvents (λ s. HaveTheirClients s × IsWithin s)
-both_within =
-    after_any (λ s. HaveTheirClients s × IsWithin s)
-    (λ settings policy peers. (opened_owned settings policy peers, opened_within settings policy peers))
-    (λ s event inputs both. (stay_owned s event inputs both.0, event_within s event inputs both.0 both.1))
+pub all_within : AfterAnyEvents (λ s. IsAtItsMoment s × (HaveTheirClients s × IsWithin s))
+all_within =
+    after_any (λ s. IsAtItsMoment s × (HaveTheirClients s × IsWithin s))
+    (λ settings policy peers.
+    (opened_timely settings policy peers, (opened_owned settings policy peers, opened_within settings policy peers)))
+    (λ s event inputs all. (
+      event_timely s event inputs,
+      (stay_owned s event inputs all.1.0, event_within s event inputs all.0 all.1.0 all.1.1),
+    ))
 
 pub limits_kept : LimitsAreKept
 limits_kept settings policy peers events =
-    let within = (both_within settings policy peers events).1 in
+    let within = (all_within settings policy peers events).1.1 in
+    let few = within.prospects in
+    let fewer' = pairs_are_prospects (state_of (opened settings policy peers) events) in
     record {
       clients = within.clients;
       sources = within.streams.logs;
       registrations = within.streams.registrations;
       subscriptions = within.streams.subscriptions;
       counters = within.counters;
-      pairs = within.pairs;
+      pairs = omega (arith, few, fewer');
+      prospects = few;
     }

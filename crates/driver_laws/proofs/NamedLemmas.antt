@@ -13,7 +13,7 @@ use Rattle.driver_core.specs.declared.settings.Settings.{Settings}
 use Rattle.driver_core.specs.Attaching.{attached}
 use Rattle.driver_core.specs.Closing.{close, keep_alive}
 use Rattle.driver_core.specs.Commands.{at_request, heard}
-use Rattle.driver_core.specs.Conduct.{conduct, drafted, state_after, state_of}
+use Rattle.driver_core.specs.Conduct.{coming_to, conduct, drafted, state_after, state_of}
 use Rattle.driver_core.specs.Counting.{counted, uncounted, valued, with_counter}
 use Rattle.driver_core.specs.Directing.{directed, directed_by, directed_to, recalled, sole_address, target_of, with_destination, with_sole, without_destination}
 use Rattle.driver_core.specs.Draft.{Draft, answered, refused, replied, replied_opening, told}
@@ -23,7 +23,7 @@ use Rattle.driver_core.specs.Reloading.{in_force, reloaded}
 use Rattle.driver_core.specs.Renewal.{renewed}
 use Rattle.driver_core.specs.Requests.{DestinationRequest, wanted_by}
 use Rattle.driver_core.specs.SettingUp.{image_made, with_image}
-use Rattle.driver_core.specs.State.{State, at_moment, opened}
+use Rattle.driver_core.specs.State.{State, at_moment, opened, ruled}
 use Rattle.driver_core.specs.Subscribing.{subscribed, with_subscription}
 use Rattle.driver_core.specs.Terminating.{stopped_for_good, terminated}
 use Rattle.driver_core.specs.Ticking.{closed_past, late, numbers_of_closing, tick, ticked}
@@ -51,7 +51,9 @@ use Rattle.stream_registry.specs.declared.wanted.Wanted.{Wanted}
 use Rattle.stream_registry.specs.Adding.{added, log_of, subscribed as subscribed_in}
 use Rattle.stream_registry.specs.Leaving.{left as left_in, unregistered, unsubscribed as unsubscribed_in}
 use Rattle.stream_registry.specs.Lingering.{closed, is_closing, is_used, left_alone, settled, settled_one, stays_live}
-use Rattle.stream_registry.specs.Origins.{is_published}
+use Rattle.stream_registry.specs.Origins.{is_published, is_published_by, left_by}
+use Rattle.stream_registry.specs.declared.row.Origin.{Origin}
+use Rattle.stream_registry.specs.declared.row.Origin.TheVariants.{Published, Remote}
 use Rattle.stream_registry.specs.Streams.{Streams}
 use Rattle.destinations.proofs.OrderLemmas.{adds, kept_orderly, none_orderly, stays_orderly}
 use Rattle.driver_core.proofs.EventCases.{Cases, attach_cases, command_cases, reload_cases, set_up_cases}
@@ -63,7 +65,6 @@ use Rattle.driver_laws.proofs.EveryLemmas.{after_any}
 use Rattle.driver_laws.proofs.LeftLemmas.{mapped}
 use Rattle.driver_laws.proofs.LoggedLemmas.{event_logged, opened_logged}
 use Rattle.driver_laws.proofs.NumberLemmas.{settled_number}
-use Rattle.driver_laws.proofs.StayingLemmas.{origin_stays}
 
 -- ---- publications that stay
 
@@ -77,6 +78,10 @@ more_stay logs log source was = record {
   source_is = was.source_is;
   published = was.published;
 }
+
+origin_stays : (now : ℕ) (origin : Origin) → is_published_by (left_by now origin) ≡ is_published_by origin
+origin_stays now (Published exclusive since) = refl
+origin_stays now (Remote address initial_term join) = refl
 
 still_published : (used : Bool) (now : ℕ) (log : Source) → is_published (cond used log (left_alone now log)) ≡ is_published log
 still_published true now log = refl
@@ -398,9 +403,10 @@ unread_follows before t follows = record {
 event_follows : (s : State) (event : Event) (inputs : Inputs) → HaveTheirLogs s.streams →
     AreOfLive s.destinations s.streams.sources →
     Follows s.destinations (state_after s event inputs).destinations (state_after s event inputs).streams.sources
-unfolding conduct renewed dropping
+unfolding conduct renewed dropping ruled
 event_follows s event inputs logged were =
-    unread_follows s.destinations (drafted s event inputs).after (draft_follows s event inputs logged were)
+    unread_follows s.destinations (drafted (coming_to s event) event inputs).after
+    (draft_follows (coming_to s event) event inputs logged were)
 
 -- ---- many
 

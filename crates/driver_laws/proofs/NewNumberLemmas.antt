@@ -4,9 +4,9 @@ use Rattle.std.proofs.lemmas.Bool.{cond_both}
 use Rattle.driver_core.specs.declared.event.Event.{Event}
 use Rattle.driver_core.specs.declared.event.Event.TheVariants.{Attach, Command, Reload, Setup, Tick}
 use Rattle.driver_core.specs.declared.event.Inputs.{Inputs}
-use Rattle.driver_core.specs.Conduct.{state_after, state_of}
+use Rattle.driver_core.specs.Conduct.{coming_to, state_after, state_of}
 use Rattle.driver_core.specs.Reloading.{has_room_for_policy}
-use Rattle.driver_core.specs.State.{State, at_moment}
+use Rattle.driver_core.specs.State.{State, at_moment, ruled}
 use Rattle.driver_laws.specs.GrantLaws.{IsCounterMadeBy, StoodBefore}
 use Rattle.driver_laws.specs.NumberLaws.{AreRising, ComesAbove, NeverLowers, NumbersAreNeverDrawnAgain, WasAttached}
 use Rattle.driver_laws.specs.PublishingLaws.{IsImageMadeBy, IsLogMadeBy, IsRegisteredBy, WasLive}
@@ -34,7 +34,7 @@ newest_above : (s : State) (event : Event) → IsOrAbove s (newest_after s event
 newest_above s (Attach now principal) = inl refl
 newest_above s (Command now handle bytes) = inl refl
 newest_above s (Reload now policy) =
-    cond_both (has_room_for_policy s policy) _ _ (IsOrAbove s) (λ room. inr (omega arith)) (λ full. inl refl)
+    cond_both (has_room_for_policy (at_moment s now) policy) _ _ (IsOrAbove s) (λ room. inr (omega arith)) (λ full. inl refl)
 newest_above s (Tick now) = inl refl
 newest_above s (Setup now local from setup) = inl refl
 
@@ -48,35 +48,38 @@ unfolding at_moment
 image_number s event log made = ap (λ (p : Source). p.number) made.log_is
 
 pub comes_above : (s : State) (event : Event) (inputs : Inputs) → ComesAbove s (state_after s event inputs)
+unfolding ruled
 comes_above s event inputs = record {
   clients = clients_come s event inputs;
   sources = λ log has.
       ⊎_elim (λ before. inl before)
       (λ others.
       ⊎_elim
-      (λ (made : IsLogMadeBy s event log).
+      (λ (made : IsLogMadeBy (coming_to s event) event log).
       let is : log.number ≡ s.last_number + 1 = ap (λ (p : Source). p.number) made.made_is in
       inr (omega (arith, is)))
-      (λ (made : IsImageMadeBy s event log).
-      let is : log.number ≡ s.last_number + 1 = image_number s event log made in
+      (λ (made : IsImageMadeBy (coming_to s event) event log).
+      let is : log.number ≡ s.last_number + 1 = image_number (coming_to s event) event log made in
       inr (omega (arith, is)))
       others)
       ((published_only s event inputs).logs log has);
   registrations = λ row has.
       ⊎_elim (λ before. inl before)
-      (λ (made : IsRegisteredBy s event row).
+      (λ (made : IsRegisteredBy (coming_to s event) event row).
       let is : row.number ≡ s.last_number + 1 = ap (λ (r : Registration). r.number) made.made_is in
       inr (omega (arith, is)))
       ((published_only s event inputs).registrations row has);
   subscriptions = λ row has.
       ⊎_elim (λ before. inl before)
-      (λ (made : (correlation : ℕ) × IsMadeBy s event correlation row).
+      (λ (made : (correlation : ℕ) × IsMadeBy (coming_to s event) event correlation row).
       let is : row.number ≡ s.last_number + 1 = ap (λ (r : Subscription). r.number) made.1.made_is in
       inr (omega (arith, is)))
       ((grants_only s event inputs).stands row has);
   counters = λ counter has.
-      ⊎_elim (λ before. inl before)
-      (λ (made : IsCounterMadeBy s event counter).
+      ⊎_elim
+      (λ (stood : StoodBefore (coming_to s event) counter).
+      inl (record { before = stood.before; stood = stood.stood; same = stood.same }))
+      (λ (made : IsCounterMadeBy (coming_to s event) event counter).
       let is : counter.number ≡ s.last_number + 1 = ap (λ (c : Counter). c.number) made.made_is in
       inr (omega (arith, is)))
       ((counts_and_ends_only s event inputs).counters counter has);

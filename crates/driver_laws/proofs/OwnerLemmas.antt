@@ -5,8 +5,8 @@ use Rattle.driver_core.specs.declared.event.Event.{Event}
 use Rattle.driver_core.specs.declared.event.Inputs.{Inputs}
 use Rattle.driver_core.specs.declared.peer.Peer.{Peer}
 use Rattle.driver_core.specs.declared.settings.Settings.{Settings}
-use Rattle.driver_core.specs.Conduct.{state_after}
-use Rattle.driver_core.specs.State.{State, opened}
+use Rattle.driver_core.specs.Conduct.{coming_to, state_after}
+use Rattle.driver_core.specs.State.{State, opened, ruled}
 use Rattle.driver_laws.specs.GrantLaws.{IsCounterMadeBy, StoodBefore}
 use Rattle.driver_laws.specs.LeavingLaws.{IsGoneBy, is_there}
 use Rattle.driver_laws.specs.OwnerLaws.{HaveTheirClients, RowsHaveTheirClients}
@@ -42,17 +42,18 @@ found_there (row ∷ rows) number client found =
 
 -- who was there is there still, unless it goes
 stays_there : (s : State) (event : Event) (inputs : Inputs) (client : ℕ) → is_there s client ≡ true →
-    (IsGoneBy s event client → ⊥) → is_there (state_after s event inputs) client ≡ true
+    (IsGoneBy (coming_to s event) event client → ⊥) → is_there (state_after s event inputs) client ≡ true
 stays_there s event inputs client there stays =
     ⊎_elim (λ still. still) (λ goes. absurd (stays goes)) (clients_go_only s event inputs client there)
 
 registrant_there : (s : State) (event : Event) (inputs : Inputs) (registration : Registration) → HaveTheirClients s →
     Contains (state_after s event inputs).streams.registrations registration →
     is_there (state_after s event inputs) registration.client ≡ true
+unfolding ruled
 registrant_there s event inputs registration before has =
     let was : is_there s registration.client ≡ true =
     ⊎_elim (λ stood. before.registrations registration stood)
-    (λ (made : IsRegisteredBy s event registration).
+    (λ (made : IsRegisteredBy (coming_to s event) event registration).
     found_there s.clients.rows registration.client made.request.client made.asks.asks.attached)
     ((published_only s event inputs).registrations registration has) in
     stays_there s event inputs registration.client was
@@ -61,10 +62,11 @@ registrant_there s event inputs registration before has =
 subscriber_there : (s : State) (event : Event) (inputs : Inputs) (subscription : Subscription) → HaveTheirClients s →
     Contains (state_after s event inputs).streams.subscriptions subscription →
     is_there (state_after s event inputs) subscription.client ≡ true
+unfolding ruled
 subscriber_there s event inputs subscription before has =
     let was : is_there s subscription.client ≡ true =
     ⊎_elim (λ stood. before.subscriptions subscription stood)
-    (λ (made : (correlation : ℕ) × IsMadeBy s event correlation subscription).
+    (λ (made : (correlation : ℕ) × IsMadeBy (coming_to s event) event correlation subscription).
     found_there s.clients.rows subscription.client made.1.request.client made.1.asks.attached)
     ((grants_only s event inputs).stands subscription has) in
     stays_there s event inputs subscription.client was
@@ -73,13 +75,14 @@ subscriber_there s event inputs subscription before has =
 counting_there : (s : State) (event : Event) (inputs : Inputs) (counter : Counter) → HaveTheirClients s →
     Contains (state_after s event inputs).counters counter →
     is_there (state_after s event inputs) counter.client ≡ true
+unfolding ruled
 counting_there s event inputs counter before has =
     let was : is_there s counter.client ≡ true =
     ⊎_elim
-    (λ (stood : StoodBefore s counter).
+    (λ (stood : StoodBefore (coming_to s event) counter).
     let same : counter.client ≡ stood.before.client = ap (λ (c : Counter). c.client) stood.same in
     rw same (before.counters stood.before stood.stood))
-    (λ (made : IsCounterMadeBy s event counter).
+    (λ (made : IsCounterMadeBy (coming_to s event) event counter).
     found_there s.clients.rows counter.client made.client made.asks.attached)
     ((counts_and_ends_only s event inputs).counters counter has) in
     stays_there s event inputs counter.client was

@@ -1,18 +1,21 @@
--- An event that grants nothing makes no more pairs.
-use Rattle.std.proofs.Common.{◌≡◌, ℕ, ◌+◌, ◌≤◌, ◌==◌, ◌&&◌, ◌||◌, not, Bool, true, false, cond, List, [], ◌∷◌, ◌++◌, length, map, filter, Option, Some, refl, sym, ap, ◌∙◌, arith}
+-- An event that grants nothing makes no more pairs, those counted that may yet be.
+use Rattle.std.proofs.Common.{◌≡◌, ℕ, ◌+◌, ◌≤◌, ◌==◌, ◌&&◌, ◌||◌, max, not, Bool, true, false, cond, List, [], ◌∷◌, ◌++◌, length, map, filter, Option, Some, refl, sym, subst, ap, ◌∙◌, arith}
 use Rattle.std.specs.List.{Contains, flat_map, list_any}
 use Rattle.std.specs.Option.{option_map}
-use Rattle.std.proofs.lemmas.Bool.{eqb-true}
+use Rattle.std.proofs.Math.Nat.{le-max_left}
+use Rattle.std.proofs.lemmas.Bool.{and_parts, eqb-true}
 use Rattle.std.proofs.lemmas.List.{length-append, length-map}
 use Rattle.std.proofs.lemmas.List.Elements.{All-contains, Contains-append_left, Contains-append_right, Contains-push, filter_passes}
 use Rattle.driver_core.specs.Leaving.{all_left, left}
-use Rattle.driver_core.specs.Pairs.{pairs_of}
-use Rattle.driver_core.specs.State.{State}
+use Rattle.driver_core.specs.Pairs.{pairs_of, prospects_of}
+use Rattle.driver_core.specs.Looking.{IsAtItsMoment}
+use Rattle.driver_core.specs.State.{State, ruled}
 use Rattle.driver_core.specs.Unread.{without_unread}
 use Rattle.driver_laws.specs.OwnerLaws.{HaveTheirClients}
 use Rattle.client_registry.specs.declared.client.Client.{Client}
 use Rattle.client_registry.specs.Clients.{admitted, client_at, is_other, principal_at, without}
 use Rattle.log_readers.specs.Unread.{is_kept, without_unread as without_unread_in}
+use Rattle.policy_core.specs.Moments.{at, coming}
 use Rattle.policy_core.specs.RuleList.{Rules}
 use Rattle.stream_registry.specs.declared.pairs.Pair.{Pair}
 use Rattle.stream_registry.specs.declared.row.Origin.{Origin}
@@ -23,7 +26,10 @@ use Rattle.stream_registry.specs.declared.row.Subscription.{Subscription}
 use Rattle.stream_registry.specs.Leaving.{is_another_subscription, is_registration_of_another, is_subscription_of_another, left as left_in, unregistered, unsubscribed}
 use Rattle.stream_registry.specs.Lingering.{closed, is_used, left_alone, settled, settled_one, stays_live}
 use Rattle.stream_registry.specs.Origins.{left_by}
-use Rattle.stream_registry.specs.Pairs.{fits, is_allowed, is_allowed_to, is_pair, pair_of, pairs_at, pairs_of as pairs_on, reaches}
+use Rattle.stream_registry.specs.Pairs.{fits, is_allowed, is_allowed_to, is_ever_allowed, is_pair, is_prospect, pair_of, pairs_at, pairs_of as pairs_on, prospects_at, prospects_of as prospects_on, reaches}
+use Rattle.stream_registry.specs.Streams.{Streams}
+use Rattle.driver_core.proofs.PairLemmas.{settled_pairs}
+use Rattle.driver_laws.proofs.EverLemmas.{sooner_allowed}
 
 -- ---- how many rows pass
 
@@ -97,45 +103,48 @@ of_changed parts change (x ∷ xs) same = rw (same x, of_changed parts change xs
 
 -- ---- the pairs of one log
 
-left_pairs : (clients : List Client) (policy : Rules) (epoch : ℕ) (subscriptions : List Subscription) (now : ℕ)
+left_prospects : (clients : List Client) (policy : Rules) (next : List Rules) (epoch : ℕ) (subscriptions : List Subscription) (now : ℕ)
     (log : Source) (origin : Origin) →
-    pairs_at clients policy epoch subscriptions (record log { origin = left_by now origin })
-    ≡ pairs_at clients policy epoch subscriptions (record log { origin = origin })
+    prospects_at clients policy next epoch subscriptions (record log { origin = left_by now origin })
+    ≡ prospects_at clients policy next epoch subscriptions (record log { origin = origin })
 unfolding fits reaches
-left_pairs clients policy epoch subscriptions now log (Published exclusive since) = refl
-left_pairs clients policy epoch subscriptions now log (Remote address initial_term join) = refl
+left_prospects clients policy next epoch subscriptions now log (Published exclusive since) = refl
+left_prospects clients policy next epoch subscriptions now log (Remote address initial_term join) = refl
 
-one_settled : (b : Bool) (clients : List Client) (policy : Rules) (epoch : ℕ) (subscriptions : List Subscription) (now : ℕ)
+one_settled : (b : Bool) (clients : List Client) (policy : Rules) (next : List Rules) (epoch : ℕ) (subscriptions : List Subscription) (now : ℕ)
     (log : Source) →
-    pairs_at clients policy epoch subscriptions (cond b log (left_alone now log))
-    ≡ pairs_at clients policy epoch subscriptions log
-one_settled true clients policy epoch subscriptions now log = refl
-one_settled false clients policy epoch subscriptions now log =
-    left_pairs clients policy epoch subscriptions now log log.origin
+    prospects_at clients policy next epoch subscriptions (cond b log (left_alone now log))
+    ≡ prospects_at clients policy next epoch subscriptions log
+one_settled true clients policy next epoch subscriptions now log = refl
+one_settled false clients policy next epoch subscriptions now log =
+    left_prospects clients policy next epoch subscriptions now log log.origin
 
 -- that a log lingers makes no difference to its pairs
-pairs_settled : (clients : List Client) (policy : Rules) (epoch : ℕ) (subscriptions : List Subscription)
+prospects_settled : (clients : List Client) (policy : Rules) (next : List Rules) (epoch : ℕ) (subscriptions : List Subscription)
     (registrations : List Registration) (now : ℕ) (logs : List Source) →
-    flat_map (pairs_at clients policy epoch subscriptions) (map (settled_one registrations now) logs)
-    ≡ flat_map (pairs_at clients policy epoch subscriptions) logs
-pairs_settled clients policy epoch subscriptions registrations now logs =
-    of_changed (pairs_at clients policy epoch subscriptions) (settled_one registrations now) logs
-    (λ log. one_settled (is_used registrations log.number) clients policy epoch subscriptions now log)
+    flat_map (prospects_at clients policy next epoch subscriptions) (map (settled_one registrations now) logs)
+    ≡ flat_map (prospects_at clients policy next epoch subscriptions) logs
+prospects_settled clients policy next epoch subscriptions registrations now logs =
+    of_changed (prospects_at clients policy next epoch subscriptions) (settled_one registrations now) logs
+    (λ log. one_settled (is_used registrations log.number) clients policy next epoch subscriptions now log)
 
-readers_counted : (clients : List Client) (policy : Rules) (epoch : ℕ) (subscriptions : List Subscription)
+readers_counted : (clients : List Client) (policy : Rules) (next : List Rules) (epoch : ℕ) (subscriptions : List Subscription)
     (log : Source) →
-    length (pairs_at clients policy epoch subscriptions log)
-    ≡ length (filter (is_pair clients policy epoch log) subscriptions)
-readers_counted clients policy epoch subscriptions log =
-    length-map (filter (is_pair clients policy epoch log) subscriptions) (pair_of log)
+    length (prospects_at clients policy next epoch subscriptions log)
+    ≡ length (filter (is_prospect clients policy next epoch log) subscriptions)
+readers_counted clients policy next epoch subscriptions log =
+    length-map (filter (is_prospect clients policy next epoch log) subscriptions) (pair_of log)
 
 -- whom the subscription's client acts for decides
-pair_by : (clients others : List Client) (policy : Rules) (epoch : ℕ) (log : Source) (subscription : Subscription) →
+prospect_by : (clients others : List Client) (policy : Rules) (next : List Rules) (epoch : ℕ) (log : Source) (subscription : Subscription) →
     principal_at clients subscription.client ≡ principal_at others subscription.client →
-    is_pair clients policy epoch log subscription ≡ is_pair others policy epoch log subscription
-unfolding is_allowed
-pair_by clients others policy epoch log subscription same =
-    ap (λ (found : Option ℕ). fits log subscription && is_allowed_to policy epoch subscription found) same
+    is_prospect clients policy next epoch log subscription ≡ is_prospect others policy next epoch log subscription
+unfolding is_ever_allowed is_allowed
+prospect_by clients others policy next epoch log subscription same =
+    ap (λ (found : Option ℕ).
+    fits log subscription
+    && (is_allowed_to policy epoch subscription found
+    || list_any (λ (later : Rules). is_allowed_to later epoch subscription found) next)) same
 
 -- the clients of these subscriptions act for whom they did
 abbrev ActAsBefore : List Client → List Client → List Subscription → Type 0
@@ -143,29 +152,29 @@ ActAsBefore clients others subscriptions =
     (subscription : Subscription) → Contains subscriptions subscription →
     principal_at clients subscription.client ≡ principal_at others subscription.client
 
-no_more_readers : (clients others : List Client) (policy : Rules) (epoch : ℕ) (stays : Subscription → Bool)
+no_more_readers : (clients others : List Client) (policy : Rules) (next : List Rules) (epoch : ℕ) (stays : Subscription → Bool)
     (subscriptions : List Subscription) (log : Source) → ActAsBefore clients others (filter stays subscriptions) →
-    length (pairs_at clients policy epoch (filter stays subscriptions) log)
-    ≤ length (pairs_at others policy epoch subscriptions log)
-no_more_readers clients others policy epoch stays subscriptions log same =
+    length (prospects_at clients policy next epoch (filter stays subscriptions) log)
+    ≤ length (prospects_at others policy next epoch subscriptions log)
+no_more_readers clients others policy next epoch stays subscriptions log same =
     let left' : List Subscription = filter stays subscriptions in
-    let some = readers_counted clients policy epoch left' log in
-    let all = readers_counted others policy epoch subscriptions log in
-    let few = passing (is_pair clients policy epoch log) (is_pair others policy epoch log) left'
+    let some = readers_counted clients policy next epoch left' log in
+    let all = readers_counted others policy next epoch subscriptions log in
+    let few = passing (is_prospect clients policy next epoch log) (is_prospect others policy next epoch log) left'
     (λ subscription has is.
-    sym (pair_by clients others policy epoch log subscription (same subscription has)) ∙ is) in
-    let fewer = filtered (is_pair others policy epoch log) stays subscriptions in
+    sym (prospect_by clients others policy next epoch log subscription (same subscription has)) ∙ is) in
+    let fewer = filtered (is_prospect others policy next epoch log) stays subscriptions in
     omega (arith, some, all, few, fewer)
 
-same_readers : (clients others : List Client) (policy : Rules) (epoch : ℕ) (subscriptions : List Subscription)
+same_readers : (clients others : List Client) (policy : Rules) (next : List Rules) (epoch : ℕ) (subscriptions : List Subscription)
     (log : Source) → ActAsBefore clients others subscriptions →
-    length (pairs_at clients policy epoch subscriptions log) ≤ length (pairs_at others policy epoch subscriptions log)
-same_readers clients others policy epoch subscriptions log same =
-    let some = readers_counted clients policy epoch subscriptions log in
-    let all = readers_counted others policy epoch subscriptions log in
-    let few = passing (is_pair clients policy epoch log) (is_pair others policy epoch log) subscriptions
+    length (prospects_at clients policy next epoch subscriptions log) ≤ length (prospects_at others policy next epoch subscriptions log)
+same_readers clients others policy next epoch subscriptions log same =
+    let some = readers_counted clients policy next epoch subscriptions log in
+    let all = readers_counted others policy next epoch subscriptions log in
+    let few = passing (is_prospect clients policy next epoch log) (is_prospect others policy next epoch log) subscriptions
     (λ subscription has is.
-    sym (pair_by clients others policy epoch log subscription (same subscription has)) ∙ is) in
+    sym (prospect_by clients others policy next epoch log subscription (same subscription has)) ∙ is) in
     omega (arith, some, all, few)
 
 -- ---- whom clients act for where one goes or comes
@@ -205,56 +214,56 @@ first_stays (row ∷ rows) new number there =
     one_there (row.number == number) (list_any (λ (other : Client). other.number == number) rows) row
     (client_at rows number) (client_at (rows ++ new ∷ []) number) there (first_stays rows new number)
 
--- ---- no more pairs
+-- ---- no more pairs that may yet be
 
--- the one registry has no more pairs than the other
-abbrev pub HasNoMorePairs : State → State → Type 0
-HasNoMorePairs s after = length (pairs_of after) ≤ length (pairs_of s)
+-- the one registry has no more of them than the other
+abbrev pub HasNoMoreProspects : State → State → Type 0
+HasNoMoreProspects s after = length (prospects_of after) ≤ length (prospects_of s)
 
 -- a client that comes has no subscription yet
-pub pairs_attached : (s : State) (principal : ℕ) → HaveTheirClients s →
-    HasNoMorePairs s (record s { clients = admitted s.clients principal s.moment })
-unfolding pairs_of pairs_on admitted
-pairs_attached s principal owned =
+pub prospects_attached : (s : State) (principal : ℕ) → HaveTheirClients s →
+    HasNoMoreProspects s (record s { clients = admitted s.clients principal s.moment })
+unfolding prospects_of prospects_on admitted
+prospects_attached s principal owned =
     of_each _ _ s.streams.sources
     (λ log.
-    same_readers _ s.clients.rows s.policy s.epoch s.streams.subscriptions log
+    same_readers _ s.clients.rows s.policy s.prospects s.epoch s.streams.subscriptions log
     (λ subscription has.
     ap (option_map principal_of)
     (first_stays s.clients.rows _ subscription.client (owned.subscriptions subscription has))))
 
 -- a registration that goes takes none away
-pub pairs_unregistered : (s : State) (client number now : ℕ) →
-    pairs_of (record s { streams = unregistered s.streams client number now }) ≡ pairs_of s
-unfolding pairs_of pairs_on unregistered settled
-pairs_unregistered s client number now =
-    pairs_settled s.clients.rows s.policy s.epoch s.streams.subscriptions _ now s.streams.sources
+pub prospects_unregistered : (s : State) (client number now : ℕ) →
+    prospects_of (record s { streams = unregistered s.streams client number now }) ≡ prospects_of s
+unfolding prospects_of prospects_on unregistered settled
+prospects_unregistered s client number now =
+    prospects_settled s.clients.rows s.policy s.prospects s.epoch s.streams.subscriptions _ now s.streams.sources
 
-pub pairs_unsubscribed : (s : State) (client number : ℕ) →
-    HasNoMorePairs s (record s { streams = unsubscribed s.streams client number })
-unfolding pairs_of pairs_on unsubscribed
-pairs_unsubscribed s client number =
+pub prospects_unsubscribed : (s : State) (client number : ℕ) →
+    HasNoMoreProspects s (record s { streams = unsubscribed s.streams client number })
+unfolding prospects_of prospects_on unsubscribed
+prospects_unsubscribed s client number =
     of_each _ _ s.streams.sources
     (λ log.
-    no_more_readers s.clients.rows s.clients.rows s.policy s.epoch (is_another_subscription client number)
+    no_more_readers s.clients.rows s.clients.rows s.policy s.prospects s.epoch (is_another_subscription client number)
     s.streams.subscriptions log (λ subscription has. refl))
 
 not_own : (b : Bool) → not b ≡ true → b ≡ false
 not_own true other = absurd (cc other)
 not_own false other = refl
 
-pub pairs_left : (s : State) (client : ℕ) → HasNoMorePairs s (left s client)
-unfolding pairs_of pairs_on left left_in settled without
-pairs_left s client =
+pub prospects_left : (s : State) (client : ℕ) → HasNoMoreProspects s (left s client)
+unfolding prospects_of prospects_on left left_in settled without
+prospects_left s client =
     let rows : List Client = filter (is_other client) s.clients.rows in
     let stays : List Subscription = filter (is_subscription_of_another client) s.streams.subscriptions in
     let same = ap (λ (pairs : List Pair). length pairs)
-    (pairs_settled rows s.policy s.epoch stays (filter (is_registration_of_another client) s.streams.registrations) s.moment
+    (prospects_settled rows s.policy s.prospects s.epoch stays (filter (is_registration_of_another client) s.streams.registrations) s.moment
     s.streams.sources) in
-    let few = of_each (pairs_at rows s.policy s.epoch stays) (pairs_at s.clients.rows s.policy s.epoch s.streams.subscriptions)
+    let few = of_each (prospects_at rows s.policy s.prospects s.epoch stays) (prospects_at s.clients.rows s.policy s.prospects s.epoch s.streams.subscriptions)
     s.streams.sources
     (λ log.
-    no_more_readers rows s.clients.rows s.policy s.epoch (is_subscription_of_another client) s.streams.subscriptions log
+    no_more_readers rows s.clients.rows s.policy s.prospects s.epoch (is_subscription_of_another client) s.streams.subscriptions log
     (λ subscription has.
     ap (option_map principal_of)
     (others_stay s.clients.rows client subscription.client
@@ -263,20 +272,106 @@ pairs_left s client =
     (filter_passes (is_subscription_of_another client) s.streams.subscriptions) has))))) in
     rw same few
 
-pub pairs_all_left : (s : State) (clients : List ℕ) → HasNoMorePairs s (all_left s clients)
-pairs_all_left s [] = omega arith
-pairs_all_left s (client ∷ clients) =
-    let first = pairs_left s client in
-    let rest = pairs_all_left (left s client) clients in
+pub prospects_all_left : (s : State) (clients : List ℕ) → HasNoMoreProspects s (all_left s clients)
+prospects_all_left s [] = omega arith
+prospects_all_left s (client ∷ clients) =
+    let first = prospects_left s client in
+    let rest = prospects_all_left (left s client) clients in
     omega (arith, first, rest)
 
-pub pairs_closed : (s : State) (now : ℕ) (silent : List ℕ) →
-    HasNoMorePairs s (record s { streams = closed s.streams now silent })
-unfolding pairs_of pairs_on closed
-pairs_closed s now silent =
-    of_those_kept (pairs_at s.clients.rows s.policy s.epoch s.streams.subscriptions) (stays_live now silent) s.streams.sources
+pub prospects_closed : (s : State) (now : ℕ) (silent : List ℕ) →
+    HasNoMoreProspects s (record s { streams = closed s.streams now silent })
+unfolding prospects_of prospects_on closed
+prospects_closed s now silent =
+    of_those_kept (prospects_at s.clients.rows s.policy s.prospects s.epoch s.streams.subscriptions) (stays_live now silent) s.streams.sources
 
-pub pairs_unread : (s : State) → HasNoMorePairs s (without_unread s)
-unfolding pairs_of pairs_on without_unread without_unread_in
-pairs_unread s =
-    of_those_kept (pairs_at s.clients.rows s.policy s.epoch s.streams.subscriptions) (is_kept _) s.streams.sources
+pub prospects_unread : (s : State) → HasNoMoreProspects s (without_unread s)
+unfolding prospects_of prospects_on without_unread without_unread_in
+prospects_unread s =
+    of_those_kept (prospects_at s.clients.rows s.policy s.prospects s.epoch s.streams.subscriptions) (is_kept _) s.streams.sources
+
+-- ---- and of the pairs there are
+
+-- they are those that may yet be of a policy that becomes no other
+pairs_as : (s : State) → pairs_of s ≡ prospects_of (record s { prospects = [] })
+unfolding pairs_of
+pairs_as s = settled_pairs (record s { prospects = [] }) refl
+
+pub pairs_unregistered : (s : State) (client number now : ℕ) →
+    pairs_of (record s { streams = unregistered s.streams client number now }) ≡ pairs_of s
+pairs_unregistered s client number now =
+    pairs_as (record s { streams = unregistered s.streams client number now })
+    ∙ prospects_unregistered (record s { prospects = [] }) client number now
+    ∙ sym (pairs_as s)
+
+pair_is_prospect : (clients : List Client) (policy : Rules) (next : List Rules) (epoch : ℕ) (log : Source)
+    (subscription : Subscription) → is_pair clients policy epoch log subscription ≡ true →
+    is_prospect clients policy next epoch log subscription ≡ true
+unfolding is_ever_allowed
+pair_is_prospect clients policy next epoch log subscription is =
+    let parts = and_parts (fits log subscription) (is_allowed clients policy epoch subscription) is in
+    rw (parts.0, parts.1) refl
+
+-- they are among these
+pub pairs_are_prospects : (s : State) → length (pairs_of s) ≤ length (prospects_of s)
+unfolding pairs_of pairs_on prospects_of prospects_on
+pairs_are_prospects s =
+    let subscriptions : List Subscription = s.streams.subscriptions in
+    of_each (pairs_at s.clients.rows s.policy s.epoch subscriptions)
+    (prospects_at s.clients.rows s.policy s.prospects s.epoch subscriptions) s.streams.sources
+    (λ log.
+    let some = length-map (filter (is_pair s.clients.rows s.policy s.epoch log) subscriptions) (pair_of log) in
+    let all = readers_counted s.clients.rows s.policy s.prospects s.epoch subscriptions log in
+    let few = passing (is_pair s.clients.rows s.policy s.epoch log)
+    (is_prospect s.clients.rows s.policy s.prospects s.epoch log) subscriptions
+    (λ subscription has is. pair_is_prospect s.clients.rows s.policy s.prospects s.epoch log subscription is) in
+    omega (arith, some, all, few))
+
+-- ---- as time goes on
+
+sooner_is_prospect : (clients : List Client) (policy : Rules) (moment later epoch : ℕ) (log : Source)
+    (subscription : Subscription) → moment ≤ later →
+    is_prospect clients (at policy later) (coming policy later) epoch log subscription ≡ true →
+    is_prospect clients (at policy moment) (coming policy moment) epoch log subscription ≡ true
+sooner_is_prospect clients policy moment later epoch log subscription up is =
+    let parts = and_parts (fits log subscription)
+    (is_ever_allowed clients (at policy later) (coming policy later) epoch subscription) is in
+    rw (parts.0, sooner_allowed clients policy moment later epoch subscription up parts.1) refl
+
+sooner_readers : (clients : List Client) (policy : Rules) (moment later epoch : ℕ) (subscriptions : List Subscription)
+    (log : Source) → moment ≤ later →
+    length (prospects_at clients (at policy later) (coming policy later) epoch subscriptions log)
+    ≤ length (prospects_at clients (at policy moment) (coming policy moment) epoch subscriptions log)
+sooner_readers clients policy moment later epoch subscriptions log up =
+    let some = readers_counted clients (at policy later) (coming policy later) epoch subscriptions log in
+    let all = readers_counted clients (at policy moment) (coming policy moment) epoch subscriptions log in
+    let few = passing (is_prospect clients (at policy later) (coming policy later) epoch log)
+    (is_prospect clients (at policy moment) (coming policy moment) epoch log) subscriptions
+    (λ subscription has is. sooner_is_prospect clients policy moment later epoch log subscription up is) in
+    omega (arith, some, all, few)
+
+-- what may yet be at a later moment may yet be now
+prospects_later : (streams : Streams) (clients : List Client) (policy : Rules) (moment later epoch : ℕ) → moment ≤ later →
+    length (prospects_on streams clients (at policy later) (coming policy later) epoch)
+    ≤ length (prospects_on streams clients (at policy moment) (coming policy moment) epoch)
+unfolding prospects_on
+prospects_later streams clients policy moment later epoch up =
+    of_each (prospects_at clients (at policy later) (coming policy later) epoch streams.subscriptions)
+    (prospects_at clients (at policy moment) (coming policy moment) epoch streams.subscriptions) streams.sources
+    (λ log. sooner_readers clients policy moment later epoch streams.subscriptions log up)
+
+-- so a moment brings none that is not counted already
+pub prospects_ruled : (s : State) (now : ℕ) → IsAtItsMoment s → HasNoMoreProspects s (ruled s now)
+unfolding prospects_of ruled
+prospects_ruled s now timely =
+    subst
+    (λ (policy : Rules).
+    length (prospects_on s.streams s.clients.rows (at s.given (max s.moment now)) (coming s.given (max s.moment now)) s.epoch)
+    ≤ length (prospects_on s.streams s.clients.rows policy s.prospects s.epoch))
+    (sym timely.0)
+    (subst
+    (λ (later : List Rules).
+    length (prospects_on s.streams s.clients.rows (at s.given (max s.moment now)) (coming s.given (max s.moment now)) s.epoch)
+    ≤ length (prospects_on s.streams s.clients.rows (at s.given s.moment) later s.epoch))
+    (sym timely.1)
+    (prospects_later s.streams s.clients.rows s.given s.moment (max s.moment now) s.epoch (le-max_left s.moment now)))

@@ -12,15 +12,15 @@ use Rattle.driver_core.specs.Conduct.{conduct, drafted}
 use Rattle.driver_core.specs.Deciding.{decision_by}
 use Rattle.driver_core.specs.Directing.{has_room_for_sole}
 use Rattle.driver_core.proofs.AskingLemmas.{sole_same}
-use Rattle.driver_core.specs.Draft.{replied, replied_opening, refused, told}
+use Rattle.driver_core.specs.Draft.{Draft, replied, replied_opening, refused, told}
 use Rattle.driver_core.specs.Pairs.{is_within_pairs}
 use Rattle.driver_core.specs.Publishing.{add_publication, has_place, has_room_for_publication, is_publishable, opening_of, publication_decision, publish, publish_by, publish_under, published, ready_for, refused_by_streams, session_of, with_publication}
 use Rattle.driver_core.specs.Renewal.{renewed}
 use Rattle.driver_core.specs.Requests.{PublicationRequest, AsksToPublish, publication_question, wanted_by}
-use Rattle.driver_core.specs.State.{State, at_moment, has_number}
+use Rattle.driver_core.specs.State.{State, at_moment, has_number, ruled}
+use Rattle.driver_core.specs.Unread.{dropping}
 use Rattle.driver_core.specs.Verdicts.{verdict_on}
-use Rattle.driver_laws.specs.GrantLaws.{IsRefusedOn}
-use Rattle.driver_laws.specs.ImageLaws.{AreRead}
+use Rattle.driver_laws.specs.GrantLaws.{IsRefusedOn, decided_on}
 use Rattle.driver_laws.specs.PublishingLaws.{IsAllowed, IsPublished, IsPublishedExactly}
 use Rattle.channel_uri.specs.Channel.{denotes}
 use Rattle.client_registry.specs.declared.client.Client.{Client}
@@ -35,10 +35,10 @@ use Rattle.stream_registry.specs.declared.wanted.Adding.TheVariants.{Join, Make}
 use Rattle.stream_registry.specs.declared.wanted.Wanted.{Wanted}
 use Rattle.stream_registry.specs.Adding.{adding_of}
 use Rattle.driver_core.proofs.VerdictLemmas.{by_policy}
-use Rattle.driver_core.proofs.PairLemmas.{pairs_by, pairs_heard, principal_heard}
+use Rattle.driver_core.proofs.PairLemmas.{principal_heard, prospects_by}
 use Rattle.driver_laws.proofs.SubscribingLemmas.{found_number}
-use Rattle.driver_laws.proofs.RenewalLemmas.{unchanged}
-use Rattle.driver_laws.proofs.StayingLemmas.{drops_none, publish_drops}
+use Rattle.driver_laws.proofs.GrantLemmas.{asks_at, refused_change}
+use Rattle.driver_laws.proofs.TurningLemmas.{by_draft, turns_to}
 
 -- ---- a well-formed request comes to the policy
 
@@ -134,68 +134,72 @@ room_is s now handle client wanted adding =
     ap (λ (b : Bool). (has_number s && b) && is_within_pairs (with_publication (at_request s now handle) client wanted adding))
     (sole_same s now handle wanted adding)
     ∙ ap (λ (pairs : List Pair). (has_number s && has_room_for_sole s wanted adding) && nat_le (length pairs) 4096)
-    (pairs_by (with_publication (at_request s now handle) client wanted adding) (with_publication s client wanted adding)
-    refl refl refl (principal_heard s.clients.rows handle (max s.moment now)))
+    (prospects_by (with_publication (at_request s now handle) client wanted adding) (with_publication s client wanted adding)
+    refl refl refl refl (principal_heard s.clients.rows handle (max s.moment now)))
 
 -- ---- what is told
 
-refused_change : (s : State) (now handle : ℕ) (inputs : Inputs) (request : PublicationRequest) (refusal : Refusal) →
-    request.client.number ≡ handle →
-    IsRefusedOn s now handle request.correlation (publication_question request) refusal (
-    renewed s inputs (
-    refused (at_request s now handle)
-    (publication_decision (at_request s now handle) request.client (wanted_by request) ∷ [])
-    request.client.number request.correlation refusal))
-unfolding decision_by refused replied told heard at_moment
-refused_change s now handle inputs request refusal own =
-    let is = unchanged s inputs (
-    refused (at_request s now handle)
-    (publication_decision (at_request s now handle) request.client (wanted_by request) ∷ [])
-    request.client.number request.correlation refusal) (pairs_heard s now handle)
-    in
-    record { after_is = is.after; told = is.replies ∙ rw own refl; decided = is.decisions }
+decision_is : (s : State) (now handle : ℕ) (request : PublicationRequest) →
+    publication_decision (at_request s now handle) request.client (wanted_by request)
+    ≡ decided_on s (publication_question request)
+unfolding decision_by heard at_moment
+decision_is s now handle request = refl
 
-denied_change : (s : State) (now handle : ℕ) (inputs : Inputs) (request : PublicationRequest) →
+refusal_change : (before s : State) (now handle : ℕ) (inputs : Inputs) (request : PublicationRequest) (refusal : Refusal) →
     request.client.number ≡ handle →
-    IsRefusedOn s now handle request.correlation (publication_question request)
+    IsRefusedOn before s now handle request.correlation inputs (publication_question request) refusal (
+    dropping before (renewed before inputs (
+    refused (at_request s now handle)
+    (publication_decision (at_request s now handle) request.client (wanted_by request) ∷ [])
+    request.client.number request.correlation refusal)))
+refusal_change before s now handle inputs request refusal own =
+    refused_change before s now handle request.correlation inputs request.client (publication_question request) _ refusal own
+    (decision_is s now handle request)
+
+denied_change : (before s : State) (now handle : ℕ) (inputs : Inputs) (request : PublicationRequest) →
+    request.client.number ≡ handle →
+    IsRefusedOn before s now handle request.correlation inputs (publication_question request)
     (Denied (verdict_on s (publication_question request))) (
-    renewed s inputs (
+    dropping before (renewed before inputs (
     refused (at_request s now handle)
     (publication_decision (at_request s now handle) request.client (wanted_by request) ∷ [])
     request.client.number request.correlation
-    (Denied (publication_decision (at_request s now handle) request.client (wanted_by request)).verdict)))
+    (Denied (publication_decision (at_request s now handle) request.client (wanted_by request)).verdict))))
 unfolding decision_by heard at_moment
-denied_change s now handle inputs request own =
-    refused_change s now handle inputs request (Denied (verdict_on s (publication_question request))) own
+denied_change before s now handle inputs request own =
+    refusal_change before s now handle inputs request (Denied (verdict_on s (publication_question request))) own
 
-published_change : (s : State) (now handle : ℕ) (inputs : Inputs) (request : PublicationRequest) (adding : Adding) →
+published_change : (before s : State) (now handle : ℕ) (inputs : Inputs) (request : PublicationRequest) (adding : Adding) →
     request.client.number ≡ handle →
-    IsPublished s now handle inputs request adding (
-    renewed s inputs (
-    published (at_request s now handle) request.client request.correlation (wanted_by request) adding))
-unfolding renewed published replied_opening replied told decision_by heard at_moment
-published_change s now handle inputs request adding own = record {
-  after_is = refl;
-  told = rw own
-      (ap (λ (images : List Message).
-      record {
-        client = handle;
-        reply = ready_for (wanted_by request) request.correlation (s.last_number + 1) (session_of adding);
-      }
-      ∷ images)
-      (append-nil _));
-  decided = refl;
-  opens = opening_is s now handle (wanted_by request) adding;
-  closes = refl;
-}
+    IsPublished before s now handle inputs request adding (
+    dropping before (renewed before inputs (
+    published (at_request s now handle) request.client request.correlation (wanted_by request) adding)))
+unfolding dropping renewed published replied_opening replied told decision_by heard at_moment
+published_change before s now handle inputs request adding own =
+    let draft : Draft = published (at_request s now handle) request.client request.correlation (wanted_by request) adding in
+    record {
+      after_is = refl;
+      turns = turns_to before inputs draft draft.after refl refl;
+      told = rw own
+          (ap (λ (images : List Message).
+          record {
+            client = handle;
+            reply = ready_for (wanted_by request) request.correlation (s.last_number + 1) (session_of adding);
+          }
+          ∷ images)
+          (append-nil _));
+      decided = refl;
+      opens = opening_is s now handle (wanted_by request) adding;
+    }
 
 -- ---- granted exactly
 
-by_verdict : (s : State) (now handle : ℕ) (inputs : Inputs) (request : PublicationRequest) →
+by_verdict : (before s : State) (now handle : ℕ) (inputs : Inputs) (request : PublicationRequest) →
     request.client.number ≡ handle →
-    IsPublishedExactly s now handle inputs request (
-    renewed s inputs (publish (at_request s now handle) request.client request.correlation (wanted_by request)))
-by_verdict s now handle inputs request own =
+    IsPublishedExactly before s now handle inputs request (
+    dropping before (renewed before inputs
+    (publish (at_request s now handle) request.client request.correlation (wanted_by request))))
+by_verdict before s now handle inputs request own =
     let left = at_request s now handle in
     let wanted = wanted_by request in
     let word = ap (λ (v : Verdict). v.allow) (publication_verdict s now handle request) in
@@ -215,32 +219,57 @@ by_verdict s now handle inputs request own =
             publish_grants left request.client request.correlation wanted adding (room adding ∙ roomy)
                 (place_is s now handle wanted adding ∙ placed),
           )
-          (published_change s now handle inputs request adding own);
+          (published_change before s now handle inputs request adding own);
       refused = λ fault allows is.
-          rw (goes_on (Err fault) allows is) (refused_change s now handle inputs request (refused_by_streams fault) own);
+          rw (goes_on (Err fault) allows is) (refusal_change before s now handle inputs request (refused_by_streams fault) own);
       full = λ adding allows is lacks.
           rw (goes_on (Ok adding) allows is, publish_is_full left request.client request.correlation wanted adding (room adding ∙ lacks))
-          (refused_change s now handle inputs request Full own);
+          (refusal_change before s now handle inputs request Full own);
       no_room = λ adding allows is roomy lacks.
           rw (
             goes_on (Ok adding) allows is,
             publish_lacks_place left request.client request.correlation wanted adding (room adding ∙ roomy)
                 (place_is s now handle wanted adding ∙ lacks),
           )
-          (refused_change s now handle inputs request NoRoom own);
+          (refusal_change before s now handle inputs request NoRoom own);
       denied = λ denies.
           rw (publish_denies left request.client request.correlation wanted (word ∙ denies))
-          (denied_change s now handle inputs request own);
+          (denied_change before s now handle inputs request own);
     }
 
-pub published_exactly : (s : State) → AreRead s → (now handle : ℕ) (bytes : List ℕ) (inputs : Inputs) (request : PublicationRequest) →
+-- a request that is granted comes to the publication
+pub grants_is : (s : State) (now handle : ℕ) (bytes : List ℕ) (inputs : Inputs) (request : PublicationRequest) (adding : Adding) →
+    AsksToPublish s handle bytes request → IsAllowed s request → adding_of s.streams (wanted_by request) ≡ Ok adding →
+    has_room_for_publication s handle (wanted_by request) adding ≡ true → has_place s (wanted_by request) adding ≡ true →
+    drafted s (Command now handle bytes) inputs
+    ≡ published (at_request s now handle) request.client request.correlation (wanted_by request) adding
+grants_is s now handle bytes inputs request adding asks allows is room placed =
+    let left : State = at_request s now handle in
+    let wanted : Wanted = wanted_by request in
+    let own : request.client.number ≡ handle = found_number s.clients.rows handle request.client asks.asks.attached in
+    request_is_decided s now handle bytes inputs request asks
+    ∙ publish_goes_on left request.client request.correlation wanted (Ok adding)
+    (ap (λ (v : Verdict). v.allow) (publication_verdict s now handle request) ∙ allows)
+    (adding_is s now handle wanted ∙ is)
+    ∙ publish_grants left request.client request.correlation wanted adding
+    (room_is s now handle request.client.number wanted adding
+    ∙ ap (λ (client : ℕ). has_room_for_publication s client wanted adding) own ∙ room)
+    (place_is s now handle wanted adding ∙ placed)
+
+-- the same client and channel, by the policy as it is at the moment of the event
+publishes_at : (s : State) (now handle : ℕ) (bytes : List ℕ) (request : PublicationRequest) →
+    AsksToPublish s handle bytes request → AsksToPublish (ruled s now) handle bytes request
+publishes_at s now handle bytes request asks = record {
+  asks = asks_at s now handle bytes request.client request.correlation _ asks.asks;
+  denotes_channel = asks.denotes_channel;
+  takes_channel = asks.takes_channel;
+}
+
+pub published_exactly : (s : State) (now handle : ℕ) (bytes : List ℕ) (inputs : Inputs) (request : PublicationRequest) →
     AsksToPublish s handle bytes request →
-    IsPublishedExactly s now handle inputs request (conduct s (Command now handle bytes) inputs)
-unfolding conduct
-published_exactly s read now handle bytes inputs request asks =
-    rw (
-      request_is_decided s now handle bytes inputs request asks,
-      drops_none s inputs (publish (at_request s now handle) request.client request.correlation (wanted_by request))
-          (publish_drops s now handle request.client request.correlation (wanted_by request) read),
-    )
-    (by_verdict s now handle inputs request (found_number s.clients.rows handle request.client asks.asks.attached))
+    IsPublishedExactly s (ruled s now) now handle inputs request (conduct s (Command now handle bytes) inputs)
+published_exactly s now handle bytes inputs request asks =
+    by_draft (IsPublishedExactly s (ruled s now) now handle inputs request) s (Command now handle bytes) inputs
+    (publish (at_request (ruled s now) now handle) request.client request.correlation (wanted_by request))
+    (request_is_decided (ruled s now) now handle bytes inputs request (publishes_at s now handle bytes request asks))
+    (by_verdict s (ruled s now) now handle inputs request (found_number s.clients.rows handle request.client asks.asks.attached))

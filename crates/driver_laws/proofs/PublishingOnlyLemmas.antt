@@ -11,7 +11,7 @@ use Rattle.driver_core.specs.declared.refusal.Refusal.{Refusal}
 use Rattle.driver_core.specs.Attaching.{attached}
 use Rattle.driver_core.specs.Closing.{keep_alive, close}
 use Rattle.driver_core.specs.Commands.{heard, at_request}
-use Rattle.driver_core.specs.Conduct.{conduct, drafted}
+use Rattle.driver_core.specs.Conduct.{coming_to, conduct, drafted}
 use Rattle.driver_core.specs.Counting.{counted, with_counter, valued, uncounted}
 use Rattle.driver_core.specs.Draft.{Draft, answered, refused, replied, replied_opening, told}
 use Rattle.driver_core.specs.Leaving.{left, all_left}
@@ -395,18 +395,18 @@ drafts_only s (Reload now policy) inputs = reload_only s now policy inputs
 drafts_only s (Tick now) inputs = tick_only s now inputs
 drafts_only s (Setup now local from setup) inputs = set_up_only s now local from setup inputs
 
-renewed_only : (s : State) (event : Event) (inputs : Inputs) →
-    PublishesOnly s event (renewed s inputs (drafted s event inputs))
-renewed_only s event inputs =
+renewed_only : (before s : State) (event : Event) (inputs : Inputs) →
+    PublishesOnly s event (renewed before inputs (drafted s event inputs))
+renewed_only before s event inputs =
     let after : State = (drafted s event inputs).after in
     let only : DraftsOnly s event (drafted s event inputs) = drafts_only s event inputs in
-    let same = renewed_after s inputs (drafted s event inputs) in
+    let same = renewed_after before inputs (drafted s event inputs) in
     rw same (record {
       registrations = only.registrations;
       logs = only.logs;
       told =
-          all_replies (λ message. IsPublicationTold s event after message.client message.reply) s inputs (drafted s event inputs)
-          only.told (λ client source subscription stream. tt)
+          all_replies (λ message. IsPublicationTold s event after message.client message.reply) before inputs
+          (drafted s event inputs) only.told (λ client source subscription stream. tt)
           (λ client source subscription session stream position identity. tt) only.later;
     })
 
@@ -451,10 +451,10 @@ logs_were : (s : State) (log : Source) → Contains (without_unread s).streams.s
 unfolding without_unread without_unread_in
 logs_were s log has = left_was_there (is_kept _) s.streams.sources log has
 
-dropping_only : (s : State) (event : Event) (change : Change) → PublishesOnly s event change →
-    PublishesOnly s event (dropping s change)
+dropping_only : (before s : State) (event : Event) (change : Change) → PublishesOnly s event change →
+    PublishesOnly s event (dropping before change)
 unfolding dropping
-dropping_only s event change only = record {
+dropping_only before s event change only = record {
   registrations = λ registration has. only.registrations registration (rw (registrations_stay change.after) at has);
   logs = λ log has. only.logs log (logs_were change.after log has);
   told = all_weaker (λ (message : Message). IsPublicationTold s event change.after message.client message.reply)
@@ -464,7 +464,9 @@ dropping_only s event change only = record {
       message.reply told) change.outcome.replies only.told;
 }
 
-pub published_only : (s : State) (event : Event) (inputs : Inputs) → PublishesOnly s event (conduct s event inputs)
+pub published_only : (s : State) (event : Event) (inputs : Inputs) →
+    PublishesOnly (coming_to s event) event (conduct s event inputs)
 unfolding conduct
 published_only s event inputs =
-    dropping_only s event (renewed s inputs (drafted s event inputs)) (renewed_only s event inputs)
+    let at : State = coming_to s event in
+    dropping_only s at event (renewed s inputs (drafted at event inputs)) (renewed_only s at event inputs)

@@ -1,6 +1,7 @@
 -- What grants nothing changes no more than moments.
 use Rattle.std.proofs.Common.{◌≡◌, ℕ, ◌==◌, ◌||◌, not, Bool, true, false, if◌then◌else◌, List, [], ◌∷◌, ◌++◌, map, refl, sym, ap, ◌∙◌, ⊎_elim}
 use Rattle.std.proofs.lemmas.Bool.{cases_Bool, eq-eqb, not-true}
+use Rattle.std.proofs.lemmas.List.{append-nil}
 use Rattle.std.specs.List.{AllByRecursion, Contains, filter, list_any}
 use Rattle.driver_core.specs.Directing.{directed, recalled, with_destination, without_destination}
 use Rattle.driver_core.specs.declared.event.Event.{Event}
@@ -13,15 +14,15 @@ use Rattle.driver_core.specs.declared.replies.Reply.{Reply}
 use Rattle.driver_core.specs.Attaching.{attached}
 use Rattle.driver_core.specs.Closing.{keep_alive, close}
 use Rattle.driver_core.specs.Commands.{heard}
-use Rattle.driver_core.specs.Conduct.{conduct, drafted, outcome_of, state_after}
+use Rattle.driver_core.specs.Conduct.{coming_to, conduct, drafted, outcome_of, state_after}
 use Rattle.driver_core.specs.Counting.{counted, valued, uncounted}
 use Rattle.driver_core.specs.Draft.{Draft, answered, told, replied, replied_opening, refused}
 use Rattle.driver_core.specs.Leaving.{all_left}
 use Rattle.driver_core.specs.Publishing.{published, with_directed_publication}
 use Rattle.driver_core.specs.Reloading.{reloaded}
-use Rattle.driver_core.specs.Renewal.{renewed}
+use Rattle.driver_core.specs.Renewal.{come_to, gone_from, images_decided, images_told, renewed}
 use Rattle.driver_core.specs.Requests.{is_heard, PublicationRequest, SubscriptionRequest, RemovalRequest, wanted_by}
-use Rattle.driver_core.specs.State.{State, at_moment}
+use Rattle.driver_core.specs.State.{State, at_moment, ruled}
 use Rattle.driver_core.specs.Subscribing.{subscribed}
 use Rattle.driver_core.specs.Terminating.{terminated}
 use Rattle.driver_core.specs.Ticking.{closed_past, late, numbers_of_closing, tick, ticked}
@@ -29,13 +30,14 @@ use Rattle.driver_core.specs.Unpublishing.{unpublished}
 use Rattle.driver_core.specs.Unsubscribing.{unsubscribed}
 use Rattle.driver_core.specs.Pairs.{pairs_of}
 use Rattle.driver_core.specs.SettingUp.{image_made}
-use Rattle.driver_core.specs.Unread.{dropping, is_closed}
-use Rattle.driver_laws.specs.RefusalLaws.{GrantsNothing, IsNoGrant, IsRefusal, only_moments}
+use Rattle.driver_core.specs.Unread.{dropping, is_closed, without_unread}
+use Rattle.driver_laws.specs.RefusalLaws.{GrantsNothing, GrantsNothingItself, IsNoGrant, IsRefusal, TakesWhatTheMomentTakes, only_moments}
 use Rattle.client_registry.specs.declared.client.Client.{Client}
 use Rattle.command_codec.specs.declared.add_counter.AddCounter.{AddCounter}
 use Rattle.command_codec.specs.declared.set_counter.SetCounter.{SetCounter}
 use Rattle.policy_core.specs.declared.decision.Decision.{Decision}
 use Rattle.policy_core.specs.RuleList.{Rules}
+use Rattle.stream_registry.specs.declared.pairs.Pair.{Pair}
 use Rattle.stream_registry.specs.declared.row.Source.{Source}
 use Rattle.stream_registry.specs.declared.wanted.Adding.{Adding}
 use Rattle.stream_registry.specs.Lingering.{closed, closing_of, is_closing, place_of, stays_live}
@@ -48,8 +50,10 @@ use Rattle.destinations.specs.declared.destination.Destination.{Destination}
 use Rattle.destinations.specs.Destinations.{DestinationList, is_of_others, without_sources}
 use Rattle.log_readers.specs.Unread.{is_left, is_unread}
 use Rattle.driver_core.proofs.ListLemmas.{passes_are_left}
+use Rattle.driver_core.proofs.PairLemmas.{pairs_heard}
 use Rattle.driver_laws.proofs.DroppingLemmas.{AreKept, all_pass, all_stay, is_any, none_pass, none_told}
 use Rattle.driver_laws.proofs.ImageLemmas.{is_mapped}
+use Rattle.driver_laws.proofs.TurningLemmas.{turns_to}
 use Rattle.driver_core.proofs.EventCases.{Cases, attach_cases, command_cases, reload_cases, set_up_cases}
 
 -- ---- where no log closes, the lists stay
@@ -330,12 +334,74 @@ all_kept s inputs draft logs nothing log has =
     (none_told place_of (is_closed (renewed s inputs draft)) s.streams.sources nothing.closes log (rw logs at has)))
 
 pub refusals_leave : (s : State) (event : Event) (inputs : Inputs) → GrantsNothing (outcome_of s event inputs) →
-    state_after s event inputs ≡ only_moments s event
-unfolding conduct renewed dropping
+    state_after s event inputs ≡ only_moments (coming_to s event) event
+unfolding conduct renewed dropping ruled
 refusals_leave s event inputs nothing =
-    let draft : Draft = drafted s event inputs in
-    let same : draft.after ≡ only_moments s event =
-    (event_leaves s event inputs).on (makes_nothing s (only_moments s event) inputs draft (moments_logs s event) nothing) in
+    let at : State = coming_to s event in
+    let draft : Draft = drafted at event inputs in
+    let same : draft.after ≡ only_moments at event =
+    (event_leaves at event inputs).on (makes_nothing s (only_moments at event) inputs draft (moments_logs at event) nothing) in
     let logs : draft.after.streams.sources ≡ s.streams.sources =
-    ap (λ (t : State). t.streams.sources) same ∙ moments_logs s event in
+    ap (λ (t : State). t.streams.sources) same ∙ moments_logs at event in
     all_stay draft.after (all_kept s inputs draft logs nothing) ∙ same
+
+-- ---- what the moment takes
+
+refuses_nothing : (after : State) (draft : Draft) → GrantsNothingItself draft → MakesNothing after draft
+refuses_nothing after draft refuses = record {
+  response = refuses.response;
+  stays = λ log has. rw refuses.closes refl;
+  replies = refuses.replies;
+  later = rw refuses.later tt;
+}
+
+moment_pairs : (s : State) (now : ℕ) → pairs_of (at_moment s now) ≡ pairs_of s
+unfolding at_moment pairs_of
+moment_pairs s now = refl
+
+-- that a client was heard of makes no difference to pairs
+command_pairs : (s : State) (now handle : ℕ) (bytes : List ℕ) →
+    pairs_of (only_moments s (Command now handle bytes)) ≡ pairs_of s
+command_pairs s now handle bytes =
+    ⊎_elim
+    (λ was_heard. sym (ap pairs_of (heard_leaves s now handle bytes was_heard)) ∙ pairs_heard s now handle)
+    (λ unheard. sym (ap pairs_of (unheard_leaves s now handle bytes unheard)) ∙ moment_pairs s now)
+    (cases_Bool (is_heard (at_moment s now) handle bytes))
+
+moments_pairs : (s : State) (event : Event) → pairs_of (only_moments s event) ≡ pairs_of s
+unfolding pairs_of
+moments_pairs s (Attach now principal) = refl
+moments_pairs s (Command now handle bytes) = command_pairs s now handle bytes
+moments_pairs s (Reload now policy) = refl
+moments_pairs s (Tick now) = refl
+moments_pairs s (Setup now local from setup) = refl
+
+takes_by_moment : (s at : State) (event : Event) (inputs : Inputs) (draft : Draft) → GrantsNothingItself draft →
+    draft.after ≡ only_moments at event → at ≡ coming_to s event →
+    TakesWhatTheMomentTakes s event inputs draft (dropping s (renewed s inputs draft))
+unfolding dropping renewed
+takes_by_moment s at event inputs draft refuses same is =
+    let gone : List Pair = gone_from s draft.after in
+    let come : List Pair = come_to s draft.after in
+    let left : draft.after ≡ only_moments (coming_to s event) event =
+    same ∙ ap (λ (t : State). only_moments t event) is in
+    record {
+      after_is = ap without_unread left;
+      turns = turns_to s inputs draft (coming_to s event) refuses.closes
+          (ap pairs_of left ∙ moments_pairs (coming_to s event) event);
+      response = refl;
+      replies = ap (λ (rest : List Message). draft.replies ++ rest)
+          (ap (λ (last : List Message). images_told draft.after inputs gone come ++ last) refuses.later
+          ∙ append-nil _
+          ∙ ap (λ (t : State). images_told t inputs gone come) left);
+      decisions = ap (λ (t : State). draft.decisions ++ images_decided t gone come) left;
+      opens = refuses.opens;
+    }
+
+pub refusals_take : (s : State) (event : Event) (inputs : Inputs) → GrantsNothingItself (drafted (coming_to s event) event inputs) →
+    TakesWhatTheMomentTakes s event inputs (drafted (coming_to s event) event inputs) (conduct s event inputs)
+unfolding conduct
+refusals_take s event inputs refuses =
+    let at : State = coming_to s event in
+    takes_by_moment s at event inputs (drafted at event inputs) refuses
+    ((event_leaves at event inputs).on (refuses_nothing (only_moments at event) (drafted at event inputs) refuses)) refl

@@ -1,5 +1,5 @@
 -- A reload closes exactly, and the newest policy is in force.
-use Rattle.std.proofs.Common.{◌≡◌, ℕ, ◌+◌, true, false, List, [], map, filter, refl, sym, ap, ◌∙◌}
+use Rattle.std.proofs.Common.{◌≡◌, ℕ, ◌+◌, true, false, List, [], map, filter, refl, sym, subst, ap, ◌∙◌}
 use Rattle.std.proofs.lemmas.Bool.{cond_both}
 use Rattle.std.proofs.lemmas.List.{append-nil}
 use Rattle.driver_core.specs.Directing.{directed, recalled, with_destination, without_destination}
@@ -12,15 +12,15 @@ use Rattle.driver_core.specs.declared.refusal.Refusal.{Refusal}
 use Rattle.driver_core.specs.Attaching.{attached}
 use Rattle.driver_core.specs.Closing.{keep_alive, close}
 use Rattle.driver_core.specs.Commands.{heard}
-use Rattle.driver_core.specs.Conduct.{conduct, drafted, state_after}
+use Rattle.driver_core.specs.Conduct.{coming_to, conduct, drafted, state_after}
 use Rattle.driver_core.specs.Counting.{counted, with_counter, valued, uncounted}
 use Rattle.driver_core.specs.Draft.{Draft, answered, told, replied, replied_opening, refused}
-use Rattle.driver_core.specs.Pairs.{pairs_of, is_within_pairs, lacking}
+use Rattle.driver_core.specs.Pairs.{pairs_of, lacking}
 use Rattle.driver_core.specs.Publishing.{published, with_directed_publication, with_publication}
 use Rattle.driver_core.specs.Reloading.{in_force, reloaded, has_room_for_policy, reload}
 use Rattle.driver_core.specs.Renewal.{renewed}
 use Rattle.driver_core.specs.Requests.{PublicationRequest, SubscriptionRequest, RemovalRequest, wanted_by}
-use Rattle.driver_core.specs.State.{State, at_moment}
+use Rattle.driver_core.specs.State.{State, at_moment, ruled}
 use Rattle.driver_core.specs.Subscribing.{subscribed, with_subscription}
 use Rattle.driver_core.specs.Terminating.{terminated, stopped_for_good}
 use Rattle.driver_core.specs.Ticking.{closed_past, tick, ticked, late}
@@ -28,7 +28,7 @@ use Rattle.driver_core.specs.Unpublishing.{unpublished}
 use Rattle.driver_core.specs.Unsubscribing.{unsubscribed}
 use Rattle.driver_core.specs.SettingUp.{image_made, with_image}
 use Rattle.driver_core.specs.Unread.{dropping, without_unread}
-use Rattle.driver_laws.specs.ReloadLaws.{ClosesExactly, ClosesNothing, IsReloadedExactly, Numbered, in_force_at, newest_after, reloaded_from}
+use Rattle.driver_laws.specs.ReloadLaws.{ClosesByMoment, ClosesExactly, ClosesNothing, IsReloadedExactly, Numbered, in_force_at, newest_after, reloaded_from}
 use Rattle.driver_laws.specs.ImageLaws.{AreRead}
 use Rattle.driver_laws.specs.NumberLaws.{AreRising}
 use Rattle.client_registry.specs.declared.client.Client.{Client}
@@ -46,6 +46,7 @@ use Rattle.driver_laws.proofs.DroppingLemmas.{pairs_stay}
 use Rattle.driver_laws.proofs.StayingLemmas.{DropsNothing, as_before, drops_none}
 use Rattle.driver_laws.proofs.LeavingLemmas.{left_in_force, one_left_in_force}
 use Rattle.driver_laws.proofs.RenewalLemmas.{unchanged}
+use Rattle.driver_laws.proofs.TurningLemmas.{turns_to}
 
 -- ---- a reload closes exactly
 
@@ -58,9 +59,10 @@ reload_is_full : (s : State) (policy : Rules) → has_room_for_policy s policy �
 unfolding reload
 reload_is_full s policy room = rw room refl
 
+-- the policy that is in force until then has no part in it
 room_is : (s : State) (now : ℕ) (policy : Rules) →
-    has_room_for_policy (at_moment s now) policy ≡ has_room_for_policy s policy
-unfolding at_moment in_force is_within_pairs pairs_of
+    has_room_for_policy (at_moment (ruled s now) now) policy ≡ has_room_for_policy (at_moment s now) policy
+unfolding at_moment in_force ruled
 room_is s now policy = refl
 
 reloaded_rises : (s : State) (now : ℕ) (policy : Rules) → AreRising s → AreRising (reloaded_from s now policy)
@@ -73,8 +75,9 @@ reloaded_rises s now policy rises = record {
 }
 
 reloaded_closes : (s : State) (now : ℕ) (policy : Rules) (inputs : Inputs) → AreRising s →
-    ClosesExactly s now policy inputs (dropping s (renewed s inputs (reloaded (at_moment s now) policy)))
-unfolding dropping renewed reloaded answered in_force at_moment
+    ClosesExactly s now policy inputs (
+    dropping s (renewed s inputs (reloaded (at_moment (ruled s now) now) policy)))
+unfolding dropping renewed reloaded answered in_force at_moment ruled
 reloaded_closes s now policy inputs rises =
     let after : State = reloaded_from s now policy in
     let same : pairs_of (without_unread after) ≡ pairs_of after = pairs_stay after (reloaded_rises s now policy rises) in
@@ -97,9 +100,22 @@ moment_logs : (s : State) (now : ℕ) → (at_moment s now).streams.sources ≡ 
 unfolding at_moment
 moment_logs s now = refl
 
+full_closes_by_moment : (s : State) (now : ℕ) (inputs : Inputs) →
+    ClosesByMoment s now inputs (dropping s (renewed s inputs (answered (at_moment (ruled s now) now) PolicyFull)))
+unfolding dropping renewed answered
+full_closes_by_moment s now inputs = record {
+  after_is = refl;
+  told = refl;
+  turns = turns_to s inputs (answered (at_moment (ruled s now) now) PolicyFull) (ruled s now) refl
+      (moment_pairs (ruled s now) now);
+  replies = append-nil _;
+  decisions = refl;
+  opens = refl;
+}
+
 full_closes_nothing : (s : State) (now : ℕ) (inputs : Inputs) →
     ClosesNothing s now (renewed s inputs (answered (at_moment s now) PolicyFull))
-unfolding renewed answered at_moment
+unfolding renewed answered
 full_closes_nothing s now inputs =
     let same = unchanged s inputs (answered (at_moment s now) PolicyFull) (moment_pairs s now) in
     record {
@@ -117,19 +133,34 @@ full_drops : (s : State) (now : ℕ) → AreRead s → DropsNothing s (answered 
 unfolding answered
 full_drops s now read = as_before s _ read refl (moment_logs s now) (moment_pairs s now)
 
+-- the policy is at that moment what it was
+full_so : (s : State) (now : ℕ) (inputs : Inputs) → AreRead s → ruled s now ≡ s →
+    ClosesNothing s now (dropping s (renewed s inputs (answered (at_moment (ruled s now) now) PolicyFull)))
+full_so s now inputs read so =
+    subst (λ (t : State). ClosesNothing s now (dropping s (renewed s inputs (answered (at_moment t now) PolicyFull)))) (sym so)
+    (subst (ClosesNothing s now)
+    (sym (drops_none s inputs (answered (at_moment s now) PolicyFull) (full_drops s now read)))
+    (full_closes_nothing s now inputs))
+
+reload_closes : (s : State) → AreRising s → AreRead s → (now : ℕ) (policy : Rules) (inputs : Inputs) →
+    IsReloadedExactly s now policy inputs (
+    dropping s (renewed s inputs (reload (at_moment (ruled s now) now) policy)))
+reload_closes s rises read now policy inputs = record {
+  granted = λ room.
+      rw (reload_grants (at_moment (ruled s now) now) policy (room_is s now policy ∙ room))
+      (reloaded_closes s now policy inputs rises);
+  refused = λ full.
+      rw (reload_is_full (at_moment (ruled s now) now) policy (room_is s now policy ∙ full))
+      (full_closes_by_moment s now inputs);
+  refused_so = λ full so.
+      rw (reload_is_full (at_moment (ruled s now) now) policy (room_is s now policy ∙ full))
+      (full_so s now inputs read so);
+}
+
 pub reloads_close : (s : State) → AreRising s → AreRead s → (now : ℕ) (policy : Rules) (inputs : Inputs) →
     IsReloadedExactly s now policy inputs (conduct s (Reload now policy) inputs)
 unfolding conduct drafted
-reloads_close s rises read now policy inputs = record {
-  granted = λ room.
-      rw (reload_grants (at_moment s now) policy (room_is s now policy ∙ room)) (reloaded_closes s now policy inputs rises);
-  refused = λ full.
-      rw (
-        reload_is_full (at_moment s now) policy (room_is s now policy ∙ full),
-        drops_none s inputs (answered (at_moment s now) PolicyFull) (full_drops s now read),
-      )
-      (full_closes_nothing s now inputs);
-}
+reloads_close s rises read now policy inputs = reload_closes s rises read now policy inputs
 
 -- ---- the newest policy is in force
 
@@ -257,7 +288,7 @@ tick_keeps s now silent =
     record { same = left_in_force (at_moment s now) (late (at_moment s now)) ∙ moment_keeps s now }
 
 reloaded_newest : (s : State) (now : ℕ) (policy : Rules) →
-    in_force_at (reloaded (at_moment s now) policy).after ≡ record { policy = policy; epoch = s.epoch + 1 }
+    in_force_at (reloaded (at_moment s now) policy).after ≡ record { given = policy; epoch = s.epoch + 1 }
 unfolding reloaded answered in_force at_moment
 reloaded_newest s now policy = refl
 
@@ -268,10 +299,10 @@ full_newest s now = refl
 reload_newest : (s : State) (now : ℕ) (policy : Rules) →
     in_force_at (reload (at_moment s now) policy).after ≡ newest_after s (Reload now policy)
 reload_newest s now policy =
-    cond_both (has_room_for_policy s policy) (record { policy = policy; epoch = s.epoch + 1 }) (in_force_at s)
+    cond_both (has_room_for_policy (at_moment s now) policy) (record { given = policy; epoch = s.epoch + 1 }) (in_force_at s)
     (λ (n : Numbered). in_force_at (reload (at_moment s now) policy).after ≡ n)
-    (λ room. rw (reload_grants (at_moment s now) policy (room_is s now policy ∙ room)) (reloaded_newest s now policy))
-    (λ full. rw (reload_is_full (at_moment s now) policy (room_is s now policy ∙ full)) (full_newest s now))
+    (λ room. rw (reload_grants (at_moment s now) policy room) (reloaded_newest s now policy))
+    (λ full. rw (reload_is_full (at_moment s now) policy full) (full_newest s now))
 
 -- what the event's own rule leaves is what the event leaves
 drafted_newest : (s : State) (event : Event) (inputs : Inputs) → in_force_at (drafted s event inputs).after ≡ newest_after s event
@@ -290,7 +321,16 @@ drafted_newest s (Setup now local from setup) inputs =
     (λ fault. answer_keeps s (at_moment s now) _ (moment_keeps s now))
     (λ join place is set. image_keeps s (at_moment s now) _ place (moment_keeps s now))).same
 
+-- nor has the policy in force until then a part in which comes
+newest_at : (s : State) (event : Event) → newest_after (coming_to s event) event ≡ newest_after s event
+unfolding ruled at_moment in_force
+newest_at s (Attach now principal) = refl
+newest_at s (Command now handle bytes) = refl
+newest_at s (Reload now policy) = refl
+newest_at s (Tick now) = refl
+newest_at s (Setup now local from setup) = refl
+
 pub newest_in_force : (s : State) (event : Event) (inputs : Inputs) →
     in_force_at (state_after s event inputs) ≡ newest_after s event
 unfolding conduct renewed dropping without_unread
-newest_in_force s event inputs = drafted_newest s event inputs
+newest_in_force s event inputs = drafted_newest (coming_to s event) event inputs ∙ newest_at s event

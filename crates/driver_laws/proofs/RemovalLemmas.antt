@@ -12,11 +12,11 @@ use Rattle.driver_core.specs.declared.outcome.Response.{Response}
 use Rattle.driver_core.specs.declared.refusal.Refusal.{Refusal}
 use Rattle.driver_core.specs.declared.refusal.Refusal.TheVariants.{UnknownSubscription}
 use Rattle.driver_core.specs.declared.replies.Message.{Message}
-use Rattle.driver_core.specs.declared.replies.Reply.TheVariants.{OperationSuccess}
+use Rattle.driver_core.specs.declared.replies.Reply.TheVariants.{Error, OperationSuccess}
 use Rattle.driver_core.specs.Attaching.{attached}
 use Rattle.driver_core.specs.Closing.{keep_alive, close}
 use Rattle.driver_core.specs.Commands.{heard, requested, asked, command, at_request}
-use Rattle.driver_core.specs.Conduct.{conduct, drafted, state_after}
+use Rattle.driver_core.specs.Conduct.{coming_to, conduct, drafted, state_after}
 use Rattle.driver_core.specs.Counting.{counted, with_counter, valued, uncounted}
 use Rattle.driver_core.specs.Deciding.{decision_by}
 use Rattle.driver_core.specs.Draft.{Draft, answered, told, replied, replied_opening, refused}
@@ -24,7 +24,7 @@ use Rattle.driver_core.specs.Publishing.{published, with_directed_publication, w
 use Rattle.driver_core.specs.Reloading.{in_force, reloaded}
 use Rattle.driver_core.specs.Renewal.{renewed, images_decided, images_told}
 use Rattle.driver_core.specs.Requests.{Asks, PublicationRequest, SubscriptionRequest, RemovalRequest, AsksToRemove, termination_question, wanted_by}
-use Rattle.driver_core.specs.State.{State, at_moment}
+use Rattle.driver_core.specs.State.{State, at_moment, ruled}
 use Rattle.driver_core.specs.Subscribing.{subscribed, with_subscription}
 use Rattle.driver_core.specs.Terminating.{terminated, termination_decision}
 use Rattle.driver_core.specs.Ticking.{closed_past, tick, ticked, late}
@@ -35,7 +35,6 @@ use Rattle.driver_core.specs.SettingUp.{image_made, with_image}
 use Rattle.driver_core.specs.Unread.{dropping, without_unread}
 use Rattle.driver_core.specs.Change.{Change}
 use Rattle.driver_core.specs.Pairs.{pairs_of}
-use Rattle.driver_laws.specs.ImageLaws.{AreRead}
 use Rattle.driver_laws.specs.LeavingLaws.{IsClosedBy}
 use Rattle.driver_laws.specs.NumberLaws.{AreRising}
 use Rattle.driver_laws.specs.RemovalLaws.{IsRemoved, IsUnknown, IsRemovedExactly, IsRemovedBy, Goes}
@@ -67,17 +66,16 @@ use Rattle.driver_laws.proofs.SubscribingLemmas.{found_number}
 use Rattle.driver_laws.proofs.LeavingLemmas.{left_or_stays, one_left_or_stays}
 use Rattle.driver_laws.proofs.DroppingLemmas.{pairs_stay}
 use Rattle.driver_laws.proofs.NumberLemmas.{removal_rises, request_rises}
-use Rattle.driver_laws.proofs.RenewalLemmas.{unchanged}
-use Rattle.driver_laws.proofs.StayingLemmas.{drops_none, refused_drops}
+use Rattle.driver_laws.proofs.TurningLemmas.{by_draft, rising_at, sources_at, told_before, turns_to}
+use Rattle.stream_registry.specs.declared.row.Source.{Source}
 
 -- ---- removed exactly
 
 removal_is_decided : (s : State) (now handle : ℕ) (bytes : List ℕ) (inputs : Inputs) (request : RemovalRequest) →
     AsksToRemove s handle bytes request →
-    conduct s (Command now handle bytes) inputs
-    ≡ dropping s
-    (renewed s inputs (remove_subscription (at_request s now handle) request.client request.correlation request.fields))
-unfolding conduct drafted command asked requested at_moment
+    drafted s (Command now handle bytes) inputs
+    ≡ remove_subscription (at_request s now handle) request.client request.correlation request.fields
+unfolding drafted command asked requested at_moment
 removal_is_decided s now handle bytes inputs request asks =
     rw (asks.command, eq-eqb handle handle refl, asks.attached) refl
 
@@ -115,21 +113,23 @@ abbrev left_behind : State → ℕ → ℕ → ℕ → ℕ → State
 left_behind s now handle client number =
     record (at_request s now handle) { streams = unsubscribed_in s.streams client number }
 
-removed_change : (s : State) → AreRising s → (now handle : ℕ) (inputs : Inputs) (request : RemovalRequest) →
-    request.client.number ≡ handle →
-    IsRemoved s now handle inputs request (
-    dropping s (renewed s inputs (
+removed_change : (before s : State) → before.streams.sources ≡ s.streams.sources → AreRising s → (now handle : ℕ)
+    (inputs : Inputs) (request : RemovalRequest) → request.client.number ≡ handle →
+    IsRemoved before s now handle inputs request (
+    dropping before (renewed before inputs (
     unsubscribed (at_request s now handle) request.client request.correlation request.fields.registration)))
 unfolding dropping renewed unsubscribed replied told heard at_moment
-removed_change s rises now handle inputs request own =
-    let draft = unsubscribed (at_request s now handle) request.client request.correlation request.fields.registration in
-    let change : Change = renewed s inputs draft in
+removed_change before s logs rises now handle inputs request own =
+    let draft : Draft = unsubscribed (at_request s now handle) request.client request.correlation request.fields.registration in
+    let change : Change = renewed before inputs draft in
     let same : pairs_of (without_unread draft.after) ≡ pairs_of draft.after =
     pairs_stay draft.after (removal_rises (at_request s now handle) request (request_rises s now handle rises)).rises in
     let success : Message = record { client = handle; reply = OperationSuccess request.correlation } in
     record {
       after_is = ap (λ (client : ℕ). without_unread (left_behind s now handle client request.fields.registration)) own;
-      told = told_first s inputs draft success (rw own refl) refl
+      turns = turns_to before inputs draft (left_behind s now handle handle request.fields.registration) refl
+          (ap (λ (client : ℕ). pairs_of (left_behind s now handle client request.fields.registration)) own);
+      told = told_first before inputs draft success (rw own refl) refl
           ∙ ap (λ (client : ℕ).
           success
           ∷ images_told (left_behind s now handle client request.fields.registration) inputs change.outcome.gone
@@ -137,48 +137,57 @@ removed_change s rises now handle inputs request own =
       decided = ap (λ (client : ℕ).
           images_decided (left_behind s now handle client request.fields.registration) change.outcome.gone
           change.outcome.come) own;
-      closes = ap (λ (pairs : List Pair). map place_of (filter (is_unread pairs) s.streams.sources)) (sym same);
+      closes = ap (λ (logs' : List Source). map place_of (filter (is_unread (pairs_of draft.after)) logs')) logs
+          ∙ ap (λ (pairs : List Pair). map place_of (filter (is_unread pairs) s.streams.sources)) (sym same);
     }
 
 -- a refusal leaves the pairs as they are
-pub unknown_change : (s : State) (now handle client correlation : ℕ) (inputs : Inputs) (refusal : Refusal) →
+pub unknown_change : (before s : State) (now handle client correlation : ℕ) (inputs : Inputs) (refusal : Refusal) →
     client ≡ handle →
-    IsUnknown s now handle correlation refusal (
-    renewed s inputs (refused (at_request s now handle) [] client correlation refusal))
-unfolding refused replied told
-unknown_change s now handle client correlation inputs refusal own =
-    let draft = refused (at_request s now handle) [] client correlation refusal in
-    let as_it_is = unchanged s inputs draft (pairs_heard s now handle) in
-    record { after_is = as_it_is.after; told = as_it_is.replies ∙ rw own refl; decided = as_it_is.decisions }
+    IsUnknown before s now handle correlation inputs refusal (
+    dropping before (renewed before inputs (refused (at_request s now handle) [] client correlation refusal)))
+unfolding dropping renewed refused replied told
+unknown_change before s now handle client correlation inputs refusal own =
+    let draft : Draft = refused (at_request s now handle) [] client correlation refusal in
+    record {
+      after_is = refl;
+      turns = turns_to before inputs draft s refl (pairs_heard s now handle);
+      told = told_before before inputs draft (record { client = handle; reply = Error correlation refusal }) (rw own refl) refl;
+      decided = refl;
+    }
 
-by_number : (s : State) → AreRising s → AreRead s → (now handle : ℕ) (inputs : Inputs) (request : RemovalRequest) →
-    request.client.number ≡ handle →
-    IsRemovedExactly s now handle inputs request (
-    dropping s (renewed s inputs (
+by_number : (before s : State) → before.streams.sources ≡ s.streams.sources → AreRising s → (now handle : ℕ)
+    (inputs : Inputs) (request : RemovalRequest) → request.client.number ≡ handle →
+    IsRemovedExactly before s now handle inputs request (
+    dropping before (renewed before inputs (
     remove_subscription (at_request s now handle) request.client request.correlation request.fields)))
-by_number s rises read now handle inputs request own =
+by_number before s logs rises now handle inputs request own =
     let same = ap (λ (n : ℕ). has_subscription (at_request s now handle).streams n request.fields.registration) own
     ∙ known_is s now handle request.fields.registration in
     record {
       known = λ known.
           rw (removal_grants (at_request s now handle) request (same ∙ known))
-          (removed_change s rises now handle inputs request own);
+          (removed_change before s logs rises now handle inputs request own);
       unknown = λ unknown.
-          rw (
-            removal_is_unknown (at_request s now handle) request (same ∙ unknown),
-            drops_none s inputs
-                (refused (at_request s now handle) [] request.client.number request.correlation UnknownSubscription)
-                (refused_drops s now handle [] request.client.number request.correlation UnknownSubscription read),
-          )
-          (unknown_change s now handle request.client.number request.correlation inputs UnknownSubscription own);
+          rw (removal_is_unknown (at_request s now handle) request (same ∙ unknown))
+          (unknown_change before s now handle request.client.number request.correlation inputs UnknownSubscription own);
     }
 
-pub removed_exactly : (s : State) → AreRising s → AreRead s → (now handle : ℕ) (bytes : List ℕ) (inputs : Inputs) (request : RemovalRequest) →
+-- the same client and number, by the policy as it is at the moment of the event
+removes_at : (s : State) (now handle : ℕ) (bytes : List ℕ) (request : RemovalRequest) →
+    AsksToRemove s handle bytes request → AsksToRemove (ruled s now) handle bytes request
+unfolding ruled
+removes_at s now handle bytes request asks = record { command = asks.command; attached = asks.attached }
+
+pub removed_exactly : (s : State) → AreRising s → (now handle : ℕ) (bytes : List ℕ) (inputs : Inputs) (request : RemovalRequest) →
     AsksToRemove s handle bytes request →
-    IsRemovedExactly s now handle inputs request (conduct s (Command now handle bytes) inputs)
-removed_exactly s rises read now handle bytes inputs request asks =
-    rw (removal_is_decided s now handle bytes inputs request asks)
-    (by_number s rises read now handle inputs request (found_number s.clients.rows handle request.client asks.attached))
+    IsRemovedExactly s (ruled s now) now handle inputs request (conduct s (Command now handle bytes) inputs)
+removed_exactly s rises now handle bytes inputs request asks =
+    by_draft (IsRemovedExactly s (ruled s now) now handle inputs request) s (Command now handle bytes) inputs
+    (remove_subscription (at_request (ruled s now) now handle) request.client request.correlation request.fields)
+    (removal_is_decided (ruled s now) now handle bytes inputs request (removes_at s now handle bytes request asks))
+    (by_number s (ruled s now) (sources_at s now) (rising_at s now rises) now handle inputs request
+    (found_number s.clients.rows handle request.client asks.attached))
 
 -- ---- removed only
 
@@ -467,6 +476,6 @@ draft_stays s (Setup now local from setup) inputs = set_up_stays s now local fro
 -- renewing the pairs takes no subscription away
 pub removed_only : (s : State) (event : Event) (inputs : Inputs) (subscription : Subscription) →
     Contains s.streams.subscriptions subscription →
-    Contains (state_after s event inputs).streams.subscriptions subscription ⊎ Goes s event subscription
-unfolding conduct renewed dropping without_unread without_unread_in
-removed_only s event inputs subscription has = (draft_stays s event inputs).on subscription has
+    Contains (state_after s event inputs).streams.subscriptions subscription ⊎ Goes (coming_to s event) event subscription
+unfolding conduct renewed dropping without_unread without_unread_in ruled
+removed_only s event inputs subscription has = (draft_stays (coming_to s event) event inputs).on subscription has

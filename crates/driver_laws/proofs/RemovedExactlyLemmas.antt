@@ -1,9 +1,11 @@
 -- A request that a registration or a counter go takes away what it names, and nothing else; so one that sets a counter.
-use Rattle.std.proofs.Common.{◌≡◌, ℕ, true, false, List, [], refl, ap, ◌∙◌}
+use Rattle.std.proofs.Common.{◌≡◌, ℕ, true, false, List, [], ◌∷◌, refl, ap, ◌∙◌}
 use Rattle.std.proofs.lemmas.Bool.{eq-eqb}
+use Rattle.std.proofs.lemmas.List.{append-nil}
 use Rattle.driver_core.specs.declared.event.Event.TheVariants.{Command}
 use Rattle.driver_core.specs.declared.event.Inputs.{Inputs}
 use Rattle.driver_core.specs.declared.refusal.Refusal.TheVariants.{UnknownCounter, UnknownPublication}
+use Rattle.driver_core.specs.declared.replies.Message.{Message}
 use Rattle.driver_core.specs.declared.replies.Reply.TheVariants.{OperationSuccess}
 use Rattle.driver_core.specs.Commands.{asked, body_change, command, heard, requested, at_request}
 use Rattle.driver_core.specs.Conduct.{conduct, drafted}
@@ -12,11 +14,11 @@ use Rattle.driver_core.specs.Draft.{Draft, refused, replied, told}
 use Rattle.driver_core.specs.Pairs.{pairs_of}
 use Rattle.driver_core.specs.Renewal.{renewed}
 use Rattle.driver_core.specs.Requests.{Asks}
-use Rattle.driver_core.specs.State.{State, at_moment}
+use Rattle.driver_core.specs.State.{State, at_moment, ruled}
 use Rattle.driver_core.specs.Unpublishing.{remove_publication, unpublished}
+use Rattle.driver_core.specs.Unread.{dropping}
 use Rattle.driver_core.proofs.PairLemmas.{pairs_by, pairs_heard}
 use Rattle.driver_laws.specs.CounterLaws.{IsSet, IsSetExactly, IsUncounted, IsUncountedExactly}
-use Rattle.driver_laws.specs.ImageLaws.{AreRead}
 use Rattle.driver_laws.specs.RemovalLaws.{IsUnregistered, IsUnregisteredExactly}
 use Rattle.client_registry.specs.declared.client.Client.{Client}
 use Rattle.command_codec.specs.declared.command.Body.{Body}
@@ -25,9 +27,10 @@ use Rattle.command_codec.specs.declared.removal.Removal.{Removal}
 use Rattle.command_codec.specs.declared.set_counter.SetCounter.{SetCounter}
 use Rattle.counters.specs.Counters.{has}
 use Rattle.stream_registry.specs.Leaving.{has_registration}
-use Rattle.driver_laws.proofs.RemovalLemmas.{told_first, unknown_change}
-use Rattle.driver_laws.proofs.RenewalLemmas.{ToldAsItIs, unchanged}
-use Rattle.driver_laws.proofs.StayingLemmas.{drops_none, remove_counter_drops, remove_publication_drops, set_counter_drops}
+use Rattle.driver_laws.proofs.GrantLemmas.{asks_at}
+use Rattle.driver_laws.proofs.PairCountLemmas.{pairs_unregistered}
+use Rattle.driver_laws.proofs.RemovalLemmas.{unknown_change}
+use Rattle.driver_laws.proofs.TurningLemmas.{by_draft, turns_to}
 use Rattle.driver_laws.proofs.SubscribingLemmas.{found_number}
 
 -- a client's request comes to the rule of its body
@@ -40,17 +43,26 @@ body_is_asked s now handle correlation bytes inputs client body asks =
 
 -- ---- registrations
 
-unregistered_change : (s : State) (now handle correlation number : ℕ) (inputs : Inputs) (client : Client) →
+unpublished_pairs : (s : State) (now handle correlation number : ℕ) (client : Client) →
+    pairs_of (unpublished (at_request s now handle) client correlation number).after ≡ pairs_of s
+unfolding unpublished replied told
+unpublished_pairs s now handle correlation number client =
+    pairs_unregistered (at_request s now handle) client.number number (at_request s now handle).moment
+    ∙ pairs_heard s now handle
+
+unregistered_change : (before s : State) (now handle correlation number : ℕ) (inputs : Inputs) (client : Client) →
     client.number ≡ handle →
-    IsUnregistered s now handle correlation number inputs (
-    renewed s inputs (unpublished (at_request s now handle) client correlation number))
-unfolding renewed unpublished replied told heard at_moment
-unregistered_change s now handle correlation number inputs client own =
+    IsUnregistered before s now handle correlation number inputs (
+    dropping before (renewed before inputs (unpublished (at_request s now handle) client correlation number)))
+unfolding dropping renewed unpublished replied told heard at_moment
+unregistered_change before s now handle correlation number inputs client own =
     let draft : Draft = unpublished (at_request s now handle) client correlation number in
+    let done : Message = record { client = handle; reply = OperationSuccess correlation } in
     record {
       after_is = rw own refl;
-      told = told_first s inputs draft (record { client = handle; reply = OperationSuccess correlation }) (rw own refl) refl;
-      decided = refl;
+      turns = turns_to before inputs draft s refl (unpublished_pairs s now handle correlation number client);
+      told = rw own (ap (λ (others : List Message). done ∷ others) (append-nil _));
+      decided = rw own refl;
     }
 
 registration_goes : (s : State) (client : Client) (correlation : ℕ) (fields : Removal) →
@@ -70,34 +82,32 @@ registrations_before : (s : State) (now handle number : ℕ) →
 unfolding heard at_moment
 registrations_before s now handle number = refl
 
-registration_by_number : (s : State) (now handle correlation : ℕ) (inputs : Inputs) (client : Client) (fields : Removal) →
-    client.number ≡ handle →
-    IsUnregisteredExactly s now handle correlation fields.registration inputs (
-    renewed s inputs (remove_publication (at_request s now handle) client correlation fields))
-registration_by_number s now handle correlation inputs client fields own =
+registration_by_number : (before s : State) (now handle correlation : ℕ) (inputs : Inputs) (client : Client)
+    (fields : Removal) → client.number ≡ handle →
+    IsUnregisteredExactly before s now handle correlation fields.registration inputs (
+    dropping before (renewed before inputs (remove_publication (at_request s now handle) client correlation fields)))
+registration_by_number before s now handle correlation inputs client fields own =
     let same = ap (λ (n : ℕ). has_registration (at_request s now handle).streams n fields.registration) own
     ∙ registrations_before s now handle fields.registration in
     record {
       known = λ known.
           rw (registration_goes (at_request s now handle) client correlation fields (same ∙ known))
-          (unregistered_change s now handle correlation fields.registration inputs client own);
+          (unregistered_change before s now handle correlation fields.registration inputs client own);
       unknown = λ unknown.
           rw (registration_is_unknown (at_request s now handle) client correlation fields (same ∙ unknown))
-          (unknown_change s now handle client.number correlation inputs UnknownPublication own);
+          (unknown_change before s now handle client.number correlation inputs UnknownPublication own);
     }
 
-pub unregistered_exactly : (s : State) → AreRead s → (now handle correlation : ℕ) (bytes : List ℕ) (inputs : Inputs) (client : Client)
+pub unregistered_exactly : (s : State) (now handle correlation : ℕ) (bytes : List ℕ) (inputs : Inputs) (client : Client)
     (fields : Removal) → Asks s handle bytes client correlation (Unpublishes fields) →
-    IsUnregisteredExactly s now handle correlation fields.registration inputs (
+    IsUnregisteredExactly s (ruled s now) now handle correlation fields.registration inputs (
     conduct s (Command now handle bytes) inputs)
-unfolding conduct
-unregistered_exactly s read now handle correlation bytes inputs client fields asks =
-    rw (
-      body_is_asked s now handle correlation bytes inputs client (Unpublishes fields) asks,
-      drops_none s inputs (remove_publication (at_request s now handle) client correlation fields)
-          (remove_publication_drops s now handle client correlation fields read),
-    )
-    (registration_by_number s now handle correlation inputs client fields
+unregistered_exactly s now handle correlation bytes inputs client fields asks =
+    by_draft (IsUnregisteredExactly s (ruled s now) now handle correlation fields.registration inputs) s
+    (Command now handle bytes) inputs (remove_publication (at_request (ruled s now) now handle) client correlation fields)
+    (body_is_asked (ruled s now) now handle correlation bytes inputs client (Unpublishes fields)
+    (asks_at s now handle bytes client correlation (Unpublishes fields) asks))
+    (registration_by_number s (ruled s now) now handle correlation inputs client fields
     (found_number s.clients.rows handle client asks.attached))
 
 -- ---- counters
@@ -111,19 +121,18 @@ uncounted_pairs s now handle correlation number client =
     (λ n. refl)
     ∙ pairs_heard s now handle
 
-uncounted_change : (s : State) (now handle correlation number : ℕ) (inputs : Inputs) (client : Client) →
+uncounted_change : (before s : State) (now handle correlation number : ℕ) (inputs : Inputs) (client : Client) →
     client.number ≡ handle →
-    IsUncounted s now handle correlation number (
-    renewed s inputs (uncounted (at_request s now handle) client correlation number))
-unfolding uncounted told heard at_moment
-uncounted_change s now handle correlation number inputs client own =
+    IsUncounted before s now handle correlation number inputs (
+    dropping before (renewed before inputs (uncounted (at_request s now handle) client correlation number)))
+unfolding dropping renewed uncounted told heard at_moment
+uncounted_change before s now handle correlation number inputs client own =
     let draft : Draft = uncounted (at_request s now handle) client correlation number in
-    let as_it_is : ToldAsItIs draft (renewed s inputs draft) =
-    unchanged s inputs draft (uncounted_pairs s now handle correlation number client) in
     record {
-      after_is = as_it_is.after ∙ rw own refl;
-      told = as_it_is.replies ∙ rw own refl;
-      decided = as_it_is.decisions;
+      after_is = rw own refl;
+      turns = turns_to before inputs draft s refl (uncounted_pairs s now handle correlation number client);
+      told = rw own refl;
+      decided = rw own refl;
     }
 
 counter_goes : (s : State) (client : Client) (correlation : ℕ) (fields : Removal) →
@@ -143,33 +152,32 @@ counters_before : (s : State) (now handle number : ℕ) →
 unfolding heard at_moment
 counters_before s now handle number = refl
 
-counter_by_number : (s : State) (now handle correlation : ℕ) (inputs : Inputs) (client : Client) (fields : Removal) →
+counter_by_number : (before s : State) (now handle correlation : ℕ) (inputs : Inputs) (client : Client) (fields : Removal) →
     client.number ≡ handle →
-    IsUncountedExactly s now handle correlation fields.registration (
-    renewed s inputs (remove_counter (at_request s now handle) client correlation fields))
-counter_by_number s now handle correlation inputs client fields own =
+    IsUncountedExactly before s now handle correlation fields.registration inputs (
+    dropping before (renewed before inputs (remove_counter (at_request s now handle) client correlation fields)))
+counter_by_number before s now handle correlation inputs client fields own =
     let same = ap (λ (n : ℕ). has (at_request s now handle).counters n fields.registration) own
     ∙ counters_before s now handle fields.registration in
     record {
       known = λ known.
           rw (counter_goes (at_request s now handle) client correlation fields (same ∙ known))
-          (uncounted_change s now handle correlation fields.registration inputs client own);
+          (uncounted_change before s now handle correlation fields.registration inputs client own);
       unknown = λ unknown.
           rw (counter_is_unknown (at_request s now handle) client correlation fields (same ∙ unknown))
-          (unknown_change s now handle client.number correlation inputs UnknownCounter own);
+          (unknown_change before s now handle client.number correlation inputs UnknownCounter own);
     }
 
-pub uncounted_exactly : (s : State) → AreRead s → (now handle correlation : ℕ) (bytes : List ℕ) (inputs : Inputs) (client : Client)
+pub uncounted_exactly : (s : State) (now handle correlation : ℕ) (bytes : List ℕ) (inputs : Inputs) (client : Client)
     (fields : Removal) → Asks s handle bytes client correlation (RemovesCounter fields) →
-    IsUncountedExactly s now handle correlation fields.registration (conduct s (Command now handle bytes) inputs)
-unfolding conduct
-uncounted_exactly s read now handle correlation bytes inputs client fields asks =
-    rw (
-      body_is_asked s now handle correlation bytes inputs client (RemovesCounter fields) asks,
-      drops_none s inputs (remove_counter (at_request s now handle) client correlation fields)
-          (remove_counter_drops s now handle client correlation fields read),
-    )
-    (counter_by_number s now handle correlation inputs client fields
+    IsUncountedExactly s (ruled s now) now handle correlation fields.registration inputs (
+    conduct s (Command now handle bytes) inputs)
+uncounted_exactly s now handle correlation bytes inputs client fields asks =
+    by_draft (IsUncountedExactly s (ruled s now) now handle correlation fields.registration inputs) s
+    (Command now handle bytes) inputs (remove_counter (at_request (ruled s now) now handle) client correlation fields)
+    (body_is_asked (ruled s now) now handle correlation bytes inputs client (RemovesCounter fields)
+    (asks_at s now handle bytes client correlation (RemovesCounter fields) asks))
+    (counter_by_number s (ruled s now) now handle correlation inputs client fields
     (found_number s.clients.rows handle client asks.attached))
 
 -- ---- a counter that is set
@@ -183,19 +191,19 @@ valued_pairs s now handle correlation client fields =
     (λ n. refl)
     ∙ pairs_heard s now handle
 
-valued_change : (s : State) (now handle correlation : ℕ) (inputs : Inputs) (client : Client) (fields : SetCounter) →
+valued_change : (before s : State) (now handle correlation : ℕ) (inputs : Inputs) (client : Client) (fields : SetCounter) →
     client.number ≡ handle →
-    IsSet s now handle correlation fields (
-    renewed s inputs (valued (at_request s now handle) client correlation fields))
-unfolding valued replied told heard at_moment
-valued_change s now handle correlation inputs client fields own =
+    IsSet before s now handle correlation inputs fields (
+    dropping before (renewed before inputs (valued (at_request s now handle) client correlation fields)))
+unfolding dropping renewed valued replied told heard at_moment
+valued_change before s now handle correlation inputs client fields own =
     let draft : Draft = valued (at_request s now handle) client correlation fields in
-    let as_it_is : ToldAsItIs draft (renewed s inputs draft) =
-    unchanged s inputs draft (valued_pairs s now handle correlation client fields) in
+    let done : Message = record { client = handle; reply = OperationSuccess correlation } in
     record {
-      after_is = as_it_is.after ∙ rw own refl;
-      told = as_it_is.replies ∙ rw own refl;
-      decided = as_it_is.decisions;
+      after_is = rw own refl;
+      turns = turns_to before inputs draft s refl (valued_pairs s now handle correlation client fields);
+      told = rw own (ap (λ (others : List Message). done ∷ others) (append-nil _));
+      decided = rw own refl;
     }
 
 value_is_set : (s : State) (client : Client) (correlation : ℕ) (fields : SetCounter) →
@@ -210,24 +218,29 @@ value_is_unknown : (s : State) (client : Client) (correlation : ℕ) (fields : S
 unfolding set_counter
 value_is_unknown s client correlation fields unknown = rw unknown refl
 
-pub set_exactly : (s : State) → AreRead s → (now handle correlation : ℕ) (bytes : List ℕ) (inputs : Inputs) (client : Client)
-    (fields : SetCounter) → Asks s handle bytes client correlation (Sets fields) →
-    IsSetExactly s now handle correlation fields (conduct s (Command now handle bytes) inputs)
-unfolding conduct
-set_exactly s read now handle correlation bytes inputs client fields asks =
-    let own : client.number ≡ handle = found_number s.clients.rows handle client asks.attached in
+value_by_number : (before s : State) (now handle correlation : ℕ) (inputs : Inputs) (client : Client) (fields : SetCounter) →
+    client.number ≡ handle →
+    IsSetExactly before s now handle correlation inputs fields (
+    dropping before (renewed before inputs (set_counter (at_request s now handle) client correlation fields)))
+value_by_number before s now handle correlation inputs client fields own =
     let same = ap (λ (n : ℕ). has (at_request s now handle).counters n fields.registration) own
     ∙ counters_before s now handle fields.registration in
-    rw (
-      body_is_asked s now handle correlation bytes inputs client (Sets fields) asks,
-      drops_none s inputs (set_counter (at_request s now handle) client correlation fields)
-          (set_counter_drops s now handle client correlation fields read),
-    )
-    (record {
+    record {
       known = λ known.
           rw (value_is_set (at_request s now handle) client correlation fields (same ∙ known))
-          (valued_change s now handle correlation inputs client fields own);
+          (valued_change before s now handle correlation inputs client fields own);
       unknown = λ unknown.
           rw (value_is_unknown (at_request s now handle) client correlation fields (same ∙ unknown))
-          (unknown_change s now handle client.number correlation inputs UnknownCounter own);
-    })
+          (unknown_change before s now handle client.number correlation inputs UnknownCounter own);
+    }
+
+pub set_exactly : (s : State) (now handle correlation : ℕ) (bytes : List ℕ) (inputs : Inputs) (client : Client)
+    (fields : SetCounter) → Asks s handle bytes client correlation (Sets fields) →
+    IsSetExactly s (ruled s now) now handle correlation inputs fields (conduct s (Command now handle bytes) inputs)
+set_exactly s now handle correlation bytes inputs client fields asks =
+    by_draft (IsSetExactly s (ruled s now) now handle correlation inputs fields) s (Command now handle bytes) inputs
+    (set_counter (at_request (ruled s now) now handle) client correlation fields)
+    (body_is_asked (ruled s now) now handle correlation bytes inputs client (Sets fields)
+    (asks_at s now handle bytes client correlation (Sets fields) asks))
+    (value_by_number s (ruled s now) now handle correlation inputs client fields
+    (found_number s.clients.rows handle client asks.attached))

@@ -4,7 +4,7 @@ use Rattle.std.specs.Prelude.{Result, Ok, Err, nat_lt}
 use Rattle.std.specs.List.{AllByRecursion, Contains}
 use Rattle.std.proofs.lemmas.Bool.{eq-eqb, le-leb, lt-ltb, ltb-false, ltb-true, ne_eqb, or_right}
 use Rattle.std.proofs.lemmas.List.{length-map}
-use Rattle.driver_core.specs.Pairs.{is_within_pairs, pairs_of}
+use Rattle.driver_core.specs.Pairs.{is_within_pairs, prospects_of}
 use Rattle.driver_core.specs.Directing.{can_direct, has_room_for_sole, sole_address}
 use Rattle.driver_core.specs.Publishing.{with_publication}
 use Rattle.driver_core.specs.Reloading.{in_force}
@@ -47,15 +47,15 @@ number_left : (s : State) → IsLeft s.last_number → has_number s ≡ true
 unfolding has_number
 number_left s left' = lt-ltb s.last_number 18446744073709551615 left'
 
-few_pairs : (s : State) → length (pairs_of s) ≤ 4096 → is_within_pairs s ≡ true
+few_pairs : (s : State) → length (prospects_of s) ≤ 4096 → is_within_pairs s ≡ true
 unfolding is_within_pairs
-few_pairs s few = le-leb (length (pairs_of s)) 4096 few
+few_pairs s few = le-leb (length (prospects_of s)) 4096 few
 
 both_hold : (a b : Bool) → a ≡ true → b ≡ true → (a && b) ≡ true
 both_hold a b first second = rw (first, second) refl
 
 subscription_room : (s : State) (client : ℕ) (channel : Shape) (stream : ℤ) → IsLeft s.last_number →
-    length s.streams.subscriptions < 512 → length (pairs_of (with_subscription s client channel stream)) ≤ 4096 →
+    length s.streams.subscriptions < 512 → length (prospects_of (with_subscription s client channel stream)) ≤ 4096 →
     has_room_for_subscription s client channel stream ≡ true
 unfolding has_room_for_subscription
 subscription_room s client channel stream left' few pairs =
@@ -65,7 +65,7 @@ subscription_room s client channel stream left' few pairs =
     (few_pairs (with_subscription s client channel stream) pairs)
 
 image_room : (s : State) (wanted : ImageWanted) → IsLeft s.last_number → length (filter is_remote s.streams.sources) < 512 →
-    length (pairs_of (with_image s wanted)) ≤ 4096 → has_room_for_setup s wanted ≡ true
+    length (prospects_of (with_image s wanted)) ≤ 4096 → has_room_for_setup s wanted ≡ true
 image_room s wanted left' few pairs =
     both_hold (has_room_for_image s.streams) (has_number s && is_within_pairs (with_image s wanted))
     (lt-ltb (length (filter is_remote s.streams.sources)) 512 few)

@@ -7,11 +7,12 @@ use Rattle.driver_core.specs.declared.event.Inputs.{Inputs}
 use Rattle.driver_core.specs.declared.setup_fault.SetupFault.{SetupFault}
 use Rattle.driver_core.specs.declared.setup_fault.SetupFault.TheVariants.{BadSetup, Denied, Exists, Full, NoRoom, NoSubscription}
 use Rattle.driver_core.specs.Conduct.{conduct, drafted}
-use Rattle.driver_core.specs.Pairs.{is_within_pairs, pairs_of}
-use Rattle.driver_core.specs.SettingUp.{allowed_for, fitting, has_room_for_setup, new_image, place_of_image, placing, room_for, setting_of, verdict_for, wanted_by, with_image}
-use Rattle.driver_core.specs.State.{State, at_moment, has_number}
+use Rattle.driver_core.specs.Pairs.{is_within_pairs, prospects_of}
+use Rattle.driver_core.specs.SettingUp.{allowed_for, fitting, has_room_for_setup, new_image, place_of_image, placing, room_for, set_up, setting_of, verdict_for, wanted_by, with_image}
+use Rattle.driver_core.specs.Renewal.{renewed}
+use Rattle.driver_core.specs.State.{State, at_moment, has_number, ruled}
+use Rattle.driver_core.specs.Unread.{dropping}
 use Rattle.driver_core.specs.Verdicts.{verdict_on}
-use Rattle.driver_laws.specs.ImageLaws.{AreRead}
 use Rattle.driver_laws.specs.NumberLaws.{AreRising, Rises}
 use Rattle.driver_laws.specs.OwnerLaws.{HaveTheirClients}
 use Rattle.driver_laws.specs.SettingLaws.{FitsNone, HasRoom, IsAllowedToOne, IsCause, IsDecided, IsDeniedToAll, IsNew, IsSetExactly, IsThere, IsVacantFor, MayCome}
@@ -30,7 +31,8 @@ use Rattle.driver_core.proofs.CacheLemmas.{IsFound, found_in}
 use Rattle.driver_core.proofs.ListLemmas.{contains_none, left_was_there, passes_are_left}
 use Rattle.driver_laws.proofs.DroppingLemmas.{Found, first_there, found_of, is_any, none_found, none_pass, passes_test}
 use Rattle.driver_laws.proofs.RisingLemmas.{rises_kept, rises_unique}
-use Rattle.driver_laws.proofs.SettingUpLemmas.{IsDeniedIn, acts_for, bad_is, denied_to, found_one, image_change, is_lowest, nothing_changes, set_is, verdict_of_first}
+use Rattle.driver_laws.proofs.TurningLemmas.{owned_at, rising_at}
+use Rattle.driver_laws.proofs.SettingUpLemmas.{IsDeniedIn, acts_for, bad_is, denied_to, dropped_change, found_one, image_change, is_lowest, set_is, verdict_of_first}
 
 -- it is so, and it isn't
 both_ways : {X : Type 0} (b : Bool) → b ≡ true → b ≡ false → X
@@ -80,7 +82,7 @@ has_room s now wanted room =
     record {
       images = ltb-true (length (filter is_remote s.streams.sources)) 512 parts.0;
       number = ltb-true s.last_number 18446744073709551615 rest.0;
-      pairs = leb-true (length (pairs_of (with_image (at_moment s now) wanted))) 4096 rest.1;
+      pairs = leb-true (length (prospects_of (with_image (at_moment s now) wanted))) 4096 rest.1;
     }
 
 all_three : (a b c : Bool) → a ≡ true → b ≡ true → c ≡ true → (a && (b && c)) ≡ true
@@ -92,7 +94,7 @@ unfolding at_moment has_number is_within_pairs
 room_found s now wanted room =
     all_three _ _ _ (lt-ltb (length (filter is_remote s.streams.sources)) 512 room.images)
     (lt-ltb s.last_number 18446744073709551615 room.number)
-    (le-leb (length (pairs_of (with_image (at_moment s now) wanted))) 4096 room.pairs)
+    (le-leb (length (prospects_of (with_image (at_moment s now) wanted))) 4096 room.pairs)
 
 room_lacks : (s : State) (now : ℕ) (wanted : ImageWanted) → ¬ HasRoom s now wanted →
     has_room_for_setup (at_moment s now) wanted ≡ false
@@ -339,18 +341,25 @@ coming_decides s now wanted place may =
 
 -- ---- exactly so
 
-pub set_exactly : (s : State) → AreRising s → AreRead s → HaveTheirClients s → (now : ℕ) (local from : Address)
+set_by_rule : (before s : State) → AreRising s → HaveTheirClients s → (now : ℕ) (local from : Address)
     (setup : SetupFrame) (inputs : Inputs) →
-    IsSetExactly s now local from setup inputs (conduct s (Setup now local from setup) inputs)
-unfolding conduct drafted
-set_exactly s rises read owned now local from setup inputs = record {
-  bad = λ is. rw (bad_is (at_moment s now) local from setup is) (nothing_changes s now inputs BadSetup read);
+    IsSetExactly before s now local from setup inputs (
+    dropping before (renewed before inputs (set_up (at_moment s now) local from setup)))
+set_by_rule before s rises owned now local from setup inputs = record {
+  bad = λ is. rw (bad_is (at_moment s now) local from setup is) (dropped_change before s now inputs BadSetup);
   made = λ join place is may.
       let set = coming_decides s now (wanted_by local from setup join) place may in
       rw (set_is (at_moment s now) local from setup join (Ok place) is set)
-      (image_change s now inputs (wanted_by local from setup join) place read set);
+      (image_change before s now inputs (wanted_by local from setup join) place set);
   dropped = λ join fault is cause.
       let set = cause_decides s now (wanted_by local from setup join) fault rises owned cause in
-      rw (set_is (at_moment s now) local from setup join (Err fault) is set) (nothing_changes s now inputs fault read);
+      rw (set_is (at_moment s now) local from setup join (Err fault) is set) (dropped_change before s now inputs fault);
   decided = λ join is. decided_at s now (wanted_by local from setup join) rises owned;
 }
+
+pub set_exactly : (s : State) → AreRising s → HaveTheirClients s → (now : ℕ) (local from : Address)
+    (setup : SetupFrame) (inputs : Inputs) →
+    IsSetExactly s (ruled s now) now local from setup inputs (conduct s (Setup now local from setup) inputs)
+unfolding conduct drafted
+set_exactly s rises owned now local from setup inputs =
+    set_by_rule s (ruled s now) (rising_at s now rises) (owned_at s now owned) now local from setup inputs

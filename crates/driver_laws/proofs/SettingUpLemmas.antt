@@ -6,7 +6,7 @@ use Rattle.std.specs.List.{Contains, list_any}
 use Rattle.std.specs.Option.{option_map}
 use Rattle.std.proofs.lemmas.Bool.{cases_Bool, cond_both}
 use Rattle.std.proofs.lemmas.List.{append-nil}
-use Rattle.std.proofs.lemmas.List.Elements.{Contains-append_cases, Contains-append_left, Contains-push, Contains-push_cases}
+use Rattle.std.proofs.lemmas.List.Elements.{Contains-append_cases, Contains-push}
 use Rattle.driver_core.specs.declared.event.Inputs.{Inputs}
 use Rattle.driver_core.specs.declared.outcome.Response.TheVariants.{Dropped}
 use Rattle.driver_core.specs.declared.setup_fault.SetupFault.{SetupFault}
@@ -16,9 +16,8 @@ use Rattle.driver_core.specs.Pairs.{pairs_of}
 use Rattle.driver_core.specs.Renewal.{renewed}
 use Rattle.driver_core.specs.SettingUp.{allowed_for, fitting, has_room_for_setup, image_made, new_image, place_of_image, placing, room_for, set_by, set_up, set_up_by, setting_of, verdict_for, wanted_by, with_image}
 use Rattle.driver_core.specs.State.{State, at_moment}
-use Rattle.driver_core.specs.Unread.{dropping}
+use Rattle.driver_core.specs.Unread.{dropping, without_unread}
 use Rattle.driver_core.specs.Verdicts.{verdict_on}
-use Rattle.driver_laws.specs.ImageLaws.{AreRead}
 use Rattle.driver_laws.specs.NumberLaws.{AreRising, Rises}
 use Rattle.driver_laws.specs.OwnerLaws.{HaveTheirClients}
 use Rattle.driver_laws.specs.SettingLaws.{IsAllowedToOne, IsDeniedToAll, IsDropped, IsImaged}
@@ -28,9 +27,8 @@ use Rattle.client_registry.specs.Clients.{client_at, principal_at}
 use Rattle.frame_codec.specs.declared.join.Join.{Join}
 use Rattle.frame_codec.specs.declared.setup.Setup.{Setup as SetupFrame}
 use Rattle.frame_codec.specs.Join.{join_of}
-use Rattle.log_readers.specs.Unread.{is_kept}
+use Rattle.log_readers.specs.Unread.{is_kept, without_unread as without_unread_in}
 use Rattle.policy_core.specs.declared.verdict.Verdict.{Verdict}
-use Rattle.stream_registry.specs.declared.pairs.Pair.{Pair}
 use Rattle.stream_registry.specs.declared.row.Source.{Source}
 use Rattle.stream_registry.specs.declared.row.Subscription.{Subscription}
 use Rattle.stream_registry.specs.declared.wanted.ImageWanted.{ImageWanted}
@@ -39,11 +37,10 @@ use Rattle.stream_registry.specs.Pairs.{fits, image_question, is_allowed, is_all
 use Rattle.driver_core.proofs.ListLemmas.{left_was_there, only_one, passes_are_left}
 use Rattle.driver_core.proofs.SettingLemmas.{image_is_kept, is_set, place_is_set}
 use Rattle.driver_core.proofs.VerdictLemmas.{by_policy}
-use Rattle.driver_laws.proofs.DroppingLemmas.{AreKept, Found, first_there, found_of, is_any, passes_test, still_kept}
+use Rattle.driver_laws.proofs.DroppingLemmas.{Found, first_there, found_of, is_any, passes_test}
 use Rattle.driver_laws.proofs.ImageLemmas.{allowed_to}
-use Rattle.driver_laws.proofs.RenewalLemmas.{unchanged}
 use Rattle.driver_laws.proofs.RisingLemmas.{between, rises_kept}
-use Rattle.driver_laws.proofs.StayingLemmas.{DropsNothing, as_before, drops_none, more_pairs}
+use Rattle.driver_laws.proofs.TurningLemmas.{turns_to}
 
 -- ---- what the SETUP comes to
 
@@ -65,35 +62,18 @@ moment_pairs : (s : State) (now : ℕ) → pairs_of (at_moment s now) ≡ pairs_
 unfolding at_moment pairs_of
 moment_pairs s now = refl
 
-moment_logs : (s : State) (now : ℕ) → (at_moment s now).streams.sources ≡ s.streams.sources
-unfolding at_moment
-moment_logs s now = refl
-
-dropped_drops : (s : State) (now : ℕ) (fault : SetupFault) → AreRead s → DropsNothing s (answered (at_moment s now) (Dropped fault))
-unfolding answered
-dropped_drops s now fault read = as_before s _ read refl (moment_logs s now) (moment_pairs s now)
-
-dropped_change : (s : State) (now : ℕ) (inputs : Inputs) (fault : SetupFault) →
-    IsDropped s now fault (renewed s inputs (answered (at_moment s now) (Dropped fault)))
-unfolding renewed answered
-dropped_change s now inputs fault =
-    let same = unchanged s inputs (answered (at_moment s now) (Dropped fault)) (moment_pairs s now) in
-    record {
-      after_is = refl;
-      response = refl;
-      replies = same.replies;
-      decisions = same.decisions;
-      opens = refl;
-      closes = refl;
-      gone = same.gone;
-      come = same.come;
-    }
-
-pub nothing_changes : (s : State) (now : ℕ) (inputs : Inputs) (fault : SetupFault) → AreRead s →
-    IsDropped s now fault (dropping s (renewed s inputs (answered (at_moment s now) (Dropped fault))))
-nothing_changes s now inputs fault read =
-    rw (drops_none s inputs (answered (at_moment s now) (Dropped fault)) (dropped_drops s now fault read))
-    (dropped_change s now inputs fault)
+pub dropped_change : (before s : State) (now : ℕ) (inputs : Inputs) (fault : SetupFault) →
+    IsDropped before s now inputs fault (
+    dropping before (renewed before inputs (answered (at_moment s now) (Dropped fault))))
+unfolding dropping renewed answered
+dropped_change before s now inputs fault = record {
+  after_is = refl;
+  response = refl;
+  turns = turns_to before inputs (answered (at_moment s now) (Dropped fault)) s refl (moment_pairs s now);
+  replies = append-nil _;
+  decisions = refl;
+  opens = refl;
+}
 
 -- ---- it is denied
 
@@ -243,58 +223,40 @@ image_place : (s : State) (wanted : ImageWanted) (place : ℕ) → setting_of s 
     (new_image s wanted).place ≡ place
 image_place s wanted place set = ap (λ (found : Option ℕ). unwrap_or found 0) (place_is_set s wanted place set)
 
-image_pairs : (s : State) (wanted : ImageWanted) (pair : Pair) → Contains (pairs_of s) pair →
-    Contains (pairs_of (with_image s wanted)) pair
-unfolding with_image
-image_pairs s wanted =
-    more_pairs s _ refl refl refl (λ log has. Contains-append_left s.streams.sources _ log has) (λ row has. has)
-
-imaged_kept : (pairs : List Pair) (s : State) (wanted : ImageWanted) → AreKept pairs s.streams.sources →
-    is_kept pairs (new_image s wanted) ≡ true → AreKept pairs (with_image s wanted).streams.sources
-unfolding with_image
-imaged_kept pairs s wanted kept new log has =
-    ⊎_elim (λ before. kept log before) (λ is. rw (← is) new)
-    (Contains-push_cases s.streams.sources (new_image s wanted) log has)
-
--- no image goes where one comes
-image_drops : (s : State) (now : ℕ) (wanted : ImageWanted) (place : ℕ) → AreRead s →
-    setting_of (at_moment s now) wanted ≡ Ok place → DropsNothing s (image_made (at_moment s now) wanted place)
-unfolding image_made answered at_moment
-image_drops s now wanted place read set =
-    let at : State = at_moment s now in
-    let after : State = with_image at wanted in
-    let kept : AreKept (pairs_of after) s.streams.sources = λ log has.
-    still_kept (pairs_of s) (pairs_of after) (λ pair there. image_pairs at wanted pair (rw (moment_pairs s now) there)) log
-    (read log has) in
-    record {
-      closes = refl;
-      were = kept;
-      kept = imaged_kept (pairs_of after) at wanted kept (image_is_kept at wanted place set);
-    }
-
 image_is_last : (s : State) (wanted : ImageWanted) → Contains (with_image s wanted).streams.sources (new_image s wanted)
 unfolding with_image
 image_is_last s wanted = Contains-push s.streams.sources (new_image s wanted)
 
-imaged : (s : State) (now : ℕ) (inputs : Inputs) (wanted : ImageWanted) (place : ℕ) →
+-- some subscription reads it, so that it is not among those that close
+image_stays : (s : State) (wanted : ImageWanted) (place : ℕ) → setting_of s wanted ≡ Ok place →
+    Contains (without_unread (with_image s wanted)).streams.sources (new_image s wanted)
+unfolding without_unread without_unread_in pairs_of
+image_stays s wanted place set =
+    passes_are_left (is_kept (pairs_of (with_image s wanted))) (with_image s wanted).streams.sources (new_image s wanted)
+    (image_is_kept s wanted place set) (image_is_last s wanted)
+
+imaged : (before s : State) (now : ℕ) (inputs : Inputs) (wanted : ImageWanted) (place : ℕ) →
+    setting_of (at_moment s now) wanted ≡ Ok place →
     (new_image (at_moment s now) wanted).place ≡ place → IsAllowedToOne s now wanted →
-    IsImaged s now inputs wanted place (renewed s inputs (image_made (at_moment s now) wanted place))
-unfolding renewed image_made answered at_moment
-imaged s now inputs wanted place placed allowed = record {
+    IsImaged before s now inputs wanted place (
+    dropping before (renewed before inputs (image_made (at_moment s now) wanted place)))
+unfolding dropping renewed image_made answered at_moment
+imaged before s now inputs wanted place set placed allowed = record {
   after_is = refl;
   response = refl;
   opens = refl;
   placed = placed;
-  live = image_is_last (at_moment s now) wanted;
+  live = image_stays (at_moment s now) wanted place set;
   allowed = allowed;
+  turns = turns_to before inputs (image_made (at_moment s now) wanted place) (with_image (at_moment s now) wanted) refl refl;
   replies = append-nil _;
   decisions = refl;
-  closes = refl;
 }
 
-pub image_change : (s : State) (now : ℕ) (inputs : Inputs) (wanted : ImageWanted) (place : ℕ) → AreRead s →
+pub image_change : (before s : State) (now : ℕ) (inputs : Inputs) (wanted : ImageWanted) (place : ℕ) →
     setting_of (at_moment s now) wanted ≡ Ok place →
-    IsImaged s now inputs wanted place (dropping s (renewed s inputs (image_made (at_moment s now) wanted place)))
-image_change s now inputs wanted place read set =
-    rw (drops_none s inputs (image_made (at_moment s now) wanted place) (image_drops s now wanted place read set))
-    (imaged s now inputs wanted place (image_place (at_moment s now) wanted place set) (allowed_one s now wanted place set))
+    IsImaged before s now inputs wanted place (
+    dropping before (renewed before inputs (image_made (at_moment s now) wanted place)))
+image_change before s now inputs wanted place set =
+    imaged before s now inputs wanted place set (image_place (at_moment s now) wanted place set)
+    (allowed_one s now wanted place set)

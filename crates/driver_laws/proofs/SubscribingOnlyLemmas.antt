@@ -16,7 +16,7 @@ use Rattle.driver_core.specs.Change.{Change}
 use Rattle.driver_core.specs.Attaching.{attached}
 use Rattle.driver_core.specs.Closing.{keep_alive, close}
 use Rattle.driver_core.specs.Commands.{heard, at_request}
-use Rattle.driver_core.specs.Conduct.{conduct, drafted}
+use Rattle.driver_core.specs.Conduct.{coming_to, conduct, drafted}
 use Rattle.driver_core.specs.Counting.{counted, with_counter, valued, uncounted}
 use Rattle.driver_core.specs.Draft.{Draft, answered, told, replied, replied_opening, refused}
 use Rattle.driver_core.specs.Publishing.{published, session_of, with_directed_publication, with_publication}
@@ -68,11 +68,11 @@ record DraftGrantsOnly (s : State) (event : Event) (draft : Draft) : Type 0 wher
       Contains s.streams.subscriptions subscription ⊎ ((correlation : ℕ) × IsMadeBy s event correlation subscription)
 
 -- images grant no subscription
-draft_grants_only : (s : State) (event : Event) (inputs : Inputs) (draft : Draft) → DraftGrantsOnly s event draft →
-    GrantsOnly s event (renewed s inputs draft)
+draft_grants_only : (before s : State) (event : Event) (inputs : Inputs) (draft : Draft) → DraftGrantsOnly s event draft →
+    GrantsOnly s event (renewed before inputs draft)
 unfolding renewed
-draft_grants_only s event inputs draft grants = record {
-  told = all_replies (λ (message : Message). IsGrantTold s event draft.after message.client message.reply) s inputs draft
+draft_grants_only before s event inputs draft grants = record {
+  told = all_replies (λ (message : Message). IsGrantTold s event draft.after message.client message.reply) before inputs draft
       grants.replies (λ client source subscription stream. tt)
       (λ client source subscription session stream position identity. tt) grants.later;
   stands = grants.stands;
@@ -98,10 +98,10 @@ subscriptions_stay : (s : State) → (without_unread s).streams.subscriptions �
 unfolding without_unread without_unread_in
 subscriptions_stay s = refl
 
-dropping_grants_only : (s : State) (event : Event) (change : Change) → GrantsOnly s event change →
-    GrantsOnly s event (dropping s change)
+dropping_grants_only : (before s : State) (event : Event) (change : Change) → GrantsOnly s event change →
+    GrantsOnly s event (dropping before change)
 unfolding dropping
-dropping_grants_only s event change grants = record {
+dropping_grants_only before s event change grants = record {
   told = all_weaker (λ (message : Message). IsGrantTold s event change.after message.client message.reply)
       (λ (message : Message). IsGrantTold s event (without_unread change.after) message.client message.reply)
       (λ message told.
@@ -364,8 +364,10 @@ drafted_grants_only s (Reload now policy) inputs = reload_grants_only s now poli
 drafted_grants_only s (Tick now) inputs = tick_grants_only s now inputs
 drafted_grants_only s (Setup now local from setup) inputs = set_up_grants_only s now local from setup inputs
 
-pub grants_only : (s : State) (event : Event) (inputs : Inputs) → GrantsOnly s event (conduct s event inputs)
+pub grants_only : (s : State) (event : Event) (inputs : Inputs) → GrantsOnly (coming_to s event) event (conduct s event inputs)
 unfolding conduct
 grants_only s event inputs =
-    dropping_grants_only s event (renewed s inputs (drafted s event inputs))
-    (draft_grants_only s event inputs (drafted s event inputs) (drafted_grants_only s event inputs))
+    let at : State = coming_to s event in
+    let draft : Draft = drafted at event inputs in
+    dropping_grants_only s at event (renewed s inputs draft)
+    (draft_grants_only s at event inputs draft (drafted_grants_only at event inputs))

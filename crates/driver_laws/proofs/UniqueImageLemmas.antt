@@ -9,9 +9,9 @@ use Rattle.driver_core.specs.declared.event.Event.{Event}
 use Rattle.driver_core.specs.declared.event.Inputs.{Inputs}
 use Rattle.driver_core.specs.declared.peer.Peer.{Peer}
 use Rattle.driver_core.specs.declared.settings.Settings.{Settings}
-use Rattle.driver_core.specs.Conduct.{state_after}
+use Rattle.driver_core.specs.Conduct.{coming_to, state_after}
 use Rattle.driver_core.specs.SettingUp.{wanted_by}
-use Rattle.driver_core.specs.State.{State, at_moment, opened}
+use Rattle.driver_core.specs.State.{State, at_moment, opened, ruled}
 use Rattle.driver_laws.specs.ClosingLaws.{IsSameLog}
 use Rattle.driver_laws.specs.Events.{AfterAnyEvents}
 use Rattle.driver_laws.specs.NumberLaws.{AreRising}
@@ -186,7 +186,9 @@ is_new s event image log made has both =
 one_number : (s : State) (event : Event) (inputs : Inputs) (log other : Source) → HasUniqueImages s →
     Contains (state_after s event inputs).streams.sources log →
     Contains (state_after s event inputs).streams.sources other → AreOfOnePublisher log other → log.number ≡ other.number
+unfolding ruled
 one_number s event inputs log other before has stands both =
+    let at : State = coming_to s event in
     ⊎_elim
     (λ (was : WasLive s.streams log).
     ⊎_elim
@@ -196,17 +198,17 @@ one_number s event inputs log other before has stands both =
     (before.one was.before was'.before was.stood was'.stood
     (were_of_one log other was.before was'.before was.same was'.same both))
     ∙ sym (ap (λ (p : Source). p.number) was'.same))
-    (λ (made : IsImageMadeBy s event other).
-    absurd (is_new s event other was.before made was.stood
+    (λ (made : IsImageMadeBy at event other).
+    absurd (is_new at event other was.before made was.stood
     (were_of_one log other was.before other was.same refl both)))
     (images_come s event inputs other stands both.other_is_image))
-    (λ (made : IsImageMadeBy s event log).
+    (λ (made : IsImageMadeBy at event log).
     ⊎_elim
     (λ (was : WasLive s.streams other).
-    absurd (is_new s event log was.before made was.stood
+    absurd (is_new at event log was.before made was.stood
     (were_of_one other log was.before log was.same refl (other_way log other both))))
-    (λ (made' : IsImageMadeBy s event other).
-    image_number s event log made ∙ sym (image_number s event other made'))
+    (λ (made' : IsImageMadeBy at event other).
+    image_number at event log made ∙ sym (image_number at event other made'))
     (images_come s event inputs other stands both.other_is_image))
     (images_come s event inputs log has both.is_image)
 

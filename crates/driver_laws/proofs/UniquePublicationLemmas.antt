@@ -11,11 +11,12 @@ use Rattle.driver_core.specs.declared.event.Event.{Event}
 use Rattle.driver_core.specs.declared.event.Inputs.{Inputs}
 use Rattle.driver_core.specs.declared.peer.Peer.{Peer}
 use Rattle.driver_core.specs.declared.settings.Settings.{Settings}
-use Rattle.driver_core.specs.Conduct.{state_after, state_of}
+use Rattle.driver_core.specs.Conduct.{coming_to, state_after, state_of}
 use Rattle.driver_core.specs.PublicationRequests.{is_sent_as}
 use Rattle.driver_core.specs.Publishing.{published}
 use Rattle.driver_core.specs.Requests.{wanted_by}
-use Rattle.driver_core.specs.State.{State, opened}
+use Rattle.driver_core.specs.Looking.{IsAtItsMoment}
+use Rattle.driver_core.specs.State.{State, opened, ruled}
 use Rattle.driver_laws.specs.ClosingLaws.{IsSameLog}
 use Rattle.driver_laws.specs.NumberLaws.{AreRising}
 use Rattle.driver_laws.specs.OwnerLaws.{HaveTheirClients}
@@ -49,6 +50,7 @@ use Rattle.driver_laws.proofs.DroppingLemmas.{is_any, none_found}
 use Rattle.driver_laws.proofs.LimitLemmas.{IsWithin, event_within, opened_within}
 use Rattle.driver_laws.proofs.NumberLemmas.{event_rises, opened_rises}
 use Rattle.driver_laws.proofs.OwnerLemmas.{opened_owned, stay_owned}
+use Rattle.driver_core.proofs.MomentLemmas.{event_timely, opened_timely}
 use Rattle.driver_laws.proofs.PublishingOnlyLemmas.{published_only}
 use Rattle.driver_laws.proofs.RisingLemmas.{rises_unique}
 
@@ -170,13 +172,14 @@ image_unpublished s event log made = ap is_published made.log_is
 
 pub publications_come : (s : State) (event : Event) (inputs : Inputs) (log : Source) →
     Contains (state_after s event inputs).streams.sources log → is_published log ≡ true →
-    WasLive s.streams log ⊎ IsLogMadeBy s event log
+    WasLive s.streams log ⊎ IsLogMadeBy (coming_to s event) event log
+unfolding ruled
 publications_come s event inputs log has published =
     ⊎_elim (λ live. inl live)
     (λ made.
     ⊎_elim (λ one. inr one)
-    (λ (image : IsImageMadeBy s event log).
-    let never : false ≡ true = sym (image_unpublished s event log image) ∙ published in
+    (λ (image : IsImageMadeBy (coming_to s event) event log).
+    let never : false ≡ true = sym (image_unpublished (coming_to s event) event log image) ∙ published in
     absurd (cc never))
     made)
     ((published_only s event inputs).logs log has)
@@ -205,7 +208,10 @@ made_number s event log made = ap (λ (p : Source). p.number) made.made_is
 one_number : (s : State) (event : Event) (inputs : Inputs) (log other : Source) → HasRoom s → HasUniquePublications s →
     Contains (state_after s event inputs).streams.sources log →
     Contains (state_after s event inputs).streams.sources other → AreOfOneStream log other → log.number ≡ other.number
+unfolding ruled
 one_number s event inputs log other room before has stands both =
+    let at : State = coming_to s event in
+    let room' : HasRoom at = record { counted = room.counted; few = room.few } in
     ⊎_elim
     (λ (was : WasLive s.streams log).
     ⊎_elim
@@ -215,17 +221,17 @@ one_number s event inputs log other room before has stands both =
     (before.one was.before was'.before was.stood was'.stood
     (were_of_one log other was.before was'.before was.same was'.same both))
     ∙ sym (ap (λ (p : Source). p.number) was'.same))
-    (λ (made : IsLogMadeBy s event other).
-    absurd (is_new s event other was.before room made was.stood
+    (λ (made : IsLogMadeBy at event other).
+    absurd (is_new at event other was.before room' made was.stood
     (were_of_one log other was.before other was.same refl both)))
     (publications_come s event inputs other stands both.other_published))
-    (λ (made : IsLogMadeBy s event log).
+    (λ (made : IsLogMadeBy at event log).
     ⊎_elim
     (λ (was : WasLive s.streams other).
-    absurd (is_new s event log was.before room made was.stood
+    absurd (is_new at event log was.before room' made was.stood
     (were_of_one other log was.before log was.same refl (other_way log other both))))
-    (λ (made' : IsLogMadeBy s event other).
-    made_number s event log made ∙ sym (made_number s event other made'))
+    (λ (made' : IsLogMadeBy at event other).
+    made_number at event log made ∙ sym (made_number at event other made'))
     (publications_come s event inputs other stands both.other_published))
     (publications_come s event inputs log has both.published)
 
@@ -301,6 +307,7 @@ few_logs s within =
 
 record Holds (settings : Settings) (s : State) : Type 0 where
   rises : AreRising s
+  timely : IsAtItsMoment s
   owned : HaveTheirClients s
   within : IsWithin s
   counted : IsCounted settings s
@@ -313,8 +320,9 @@ stays_unique settings s event inputs holds =
     let rises : AreRising after' = (event_rises s event inputs holds.rises).rises in
     record {
       rises = rises;
+      timely = event_timely s event inputs;
       owned = stay_owned s event inputs holds.owned;
-      within = event_within s event inputs holds.owned holds.within;
+      within = event_within s event inputs holds.timely holds.owned holds.within;
       counted = event_counted settings s event inputs holds.counted;
       unique = are_unique after' (λ log other has stands both.
           rises_unique (λ (p : Source). p.number) 0 after'.last_number after'.streams.sources log other rises.sources has stands
@@ -332,6 +340,7 @@ opened_holds : (settings : Settings) (policy : Rules) (peers : List Peer) → Fi
 unfolding opened
 opened_holds settings policy peers fits = record {
   rises = opened_rises settings policy peers;
+  timely = opened_timely settings policy peers;
   owned = opened_owned settings policy peers;
   within = opened_within settings policy peers;
   counted = (fits, refl);

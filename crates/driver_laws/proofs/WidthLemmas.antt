@@ -9,9 +9,9 @@ use Rattle.driver_core.specs.declared.event.Event.{Event}
 use Rattle.driver_core.specs.declared.event.Inputs.{Inputs}
 use Rattle.driver_core.specs.declared.peer.Peer.{Peer}
 use Rattle.driver_core.specs.declared.settings.Settings.{Settings}
-use Rattle.driver_core.specs.Conduct.{state_after, state_of}
+use Rattle.driver_core.specs.Conduct.{coming_to, state_after, state_of}
 use Rattle.driver_core.specs.Requests.{AsksToPublish, PublicationRequest, publication_body, wanted_by}
-use Rattle.driver_core.specs.State.{State, opened}
+use Rattle.driver_core.specs.State.{State, opened, ruled}
 use Rattle.driver_core.proofs.ListLemmas.{contains_none}
 use Rattle.driver_laws.specs.ClosingLaws.{IsSameLog}
 use Rattle.driver_laws.specs.PublishingLaws.{IsLogMadeBy, WasLive}
@@ -71,6 +71,7 @@ record Holds (settings : Settings) (s : State) : Type 0 where
 
 stay_fit : (settings : Settings) (s : State) (event : Event) (inputs : Inputs) → Holds settings s →
     Holds settings (state_after s event inputs)
+unfolding ruled
 stay_fit settings s event inputs holds = record {
   counted = event_counted settings s event inputs holds.counted;
   publications = λ log has published.
@@ -78,7 +79,8 @@ stay_fit settings s event inputs holds = record {
       (λ (was : WasLive s.streams log).
       still_fits log was.before was.same
       (holds.publications was.before was.stood (sym (kind_alike log was.before was.same) ∙ published)))
-      (λ (made : IsLogMadeBy s event log). made_fits s event log holds.counted.0 made)
+      (λ (made : IsLogMadeBy (coming_to s event) event log).
+      made_fits (coming_to s event) event log holds.counted.0 made)
       (publications_come s event inputs log has published);
 }
 

@@ -7,7 +7,7 @@ use Rattle.driver_core.specs.declared.event.Event.TheVariants.{Tick}
 use Rattle.driver_core.specs.declared.event.Inputs.{Inputs}
 use Rattle.driver_core.specs.declared.peer.Peer.{Peer}
 use Rattle.driver_core.specs.declared.settings.Settings.{Settings}
-use Rattle.driver_core.specs.Conduct.{conduct, drafted, state_of}
+use Rattle.driver_core.specs.Conduct.{coming_to, conduct, drafted, state_of}
 use Rattle.driver_core.specs.Pairs.{pairs_of}
 use Rattle.driver_core.specs.Soundness.{AreSettings, log_of}
 use Rattle.driver_core.specs.State.{State, opened}
@@ -34,7 +34,7 @@ pub record IsSilentBy (event : Event) (inputs : Inputs) (log : Source) : Type 0 
   pub event_is : event ≡ Tick moment
   pub silent : is_image_of inputs.silent log ≡ true
 
--- it is an image of which the event's own rule leaves no pair
+-- it is an image of which the moment and the event's own rule leave no pair
 abbrev pub IsUnreadBehind : State → Event → Inputs → Source → Type 0
 IsUnreadBehind s event inputs log = is_unread (pairs_of (drafted s event inputs).after) log ≡ true
 
@@ -57,7 +57,7 @@ LogsCloseExactly =
     (settings : Settings) (policy : Rules) (peers : List Peer) (events : List (Event × Inputs)) → AreSettings settings →
     (event : Event) (inputs : Inputs) (log : Source) →
     Contains (state_of (opened settings policy peers) events).streams.sources log →
-    Closes (state_of (opened settings policy peers) events) event inputs log →
+    Closes (coming_to (state_of (opened settings policy peers) events) event) event inputs log →
     IsClosed (conduct (state_of (opened settings policy peers) events) event inputs) log
 
 -- ---- closed only
@@ -87,7 +87,8 @@ pub record ClosesOnly (s : State) (event : Event) (inputs : Inputs) (change : Ch
 
 abbrev pub LogsCloseOnly : Type 0
 LogsCloseOnly =
-    AfterAnyEvents (λ s. (event : Event) (inputs : Inputs) → ClosesOnly s event inputs (conduct s event inputs))
+    AfterAnyEvents (λ s. (event : Event) (inputs : Inputs) →
+    ClosesOnly (coming_to s event) event inputs (conduct s event inputs))
 
 -- ---- what closes was there
 

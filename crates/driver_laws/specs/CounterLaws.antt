@@ -1,5 +1,5 @@
 -- Over every list of events: which counters go, and what sets their values.
-use Rattle.std.specs.Prelude.{◌≡◌, ℕ, true, false, List, [], ◌∷◌, Contains, ◌⊎◌}
+use Rattle.std.specs.Prelude.{◌≡◌, ℕ, true, false, List, [], ◌∷◌, ◌++◌, Contains, ◌⊎◌}
 use Rattle.driver_core.specs.Change.{Change}
 use Rattle.driver_core.specs.declared.event.Event.{Event}
 use Rattle.driver_core.specs.declared.event.Event.TheVariants.{Command}
@@ -7,10 +7,13 @@ use Rattle.driver_core.specs.declared.event.Inputs.{Inputs}
 use Rattle.driver_core.specs.declared.refusal.Refusal.TheVariants.{UnknownCounter}
 use Rattle.driver_core.specs.declared.replies.Reply.TheVariants.{OperationSuccess, UnavailableCounter}
 use Rattle.driver_core.specs.Commands.{heard}
-use Rattle.driver_core.specs.Conduct.{conduct, state_after}
+use Rattle.driver_core.specs.Conduct.{coming_to, conduct, state_after}
+use Rattle.driver_core.specs.Renewal.{images_decided, images_told}
 use Rattle.driver_core.specs.Requests.{Asks}
-use Rattle.driver_core.specs.State.{State, at_moment}
+use Rattle.driver_core.specs.State.{State, at_moment, ruled}
+use Rattle.driver_core.specs.Unread.{without_unread}
 use Rattle.driver_laws.specs.Events.{AfterAnyEvents}
+use Rattle.driver_laws.specs.Turning.{TurnsTo}
 use Rattle.driver_laws.specs.GrantLaws.{IsCounterMadeBy, StoodBefore}
 use Rattle.driver_laws.specs.LeavingLaws.{IsGoneBy}
 use Rattle.driver_laws.specs.RemovalLaws.{IsAskedBy, IsUnknown}
@@ -23,29 +26,35 @@ use Rattle.counters.specs.Counters.{has, set, without}
 
 -- ---- removed exactly
 
--- the client's counter of that number goes, and it is answered so; all else stays but for the moments
-pub record IsUncounted (s : State) (now handle correlation number : ℕ) (change : Change) : Type 0 where
-  pub after_is :
-      change.after
-      ≡ record (heard (at_moment s now) handle) {
-        counters = without s.counters handle number;
-      }
+-- the client's counter of that number goes
+abbrev pub uncounted_from : State → ℕ → ℕ → ℕ → State
+uncounted_from s now handle number =
+    record (heard (at_moment s now) handle) { counters = without s.counters handle number }
+
+-- and it is answered so; all else stays but for the moments, and what the moment takes and brings
+pub record IsUncounted (before s : State) (now handle correlation number : ℕ) (inputs : Inputs) (change : Change) : Type 0 where
+  pub after_is : change.after ≡ without_unread (uncounted_from s now handle number)
+  pub turns : TurnsTo before s change
   pub told :
       change.outcome.replies
       ≡ record { client = handle; reply = OperationSuccess correlation }
-      ∷ record { client = handle; reply = UnavailableCounter number } ∷ []
-  pub decided : change.outcome.decisions ≡ []
+      ∷ (images_told (uncounted_from s now handle number) inputs change.outcome.gone change.outcome.come
+      ++ record { client = handle; reply = UnavailableCounter number } ∷ [])
+  pub decided :
+      change.outcome.decisions
+      ≡ images_decided (uncounted_from s now handle number) change.outcome.gone change.outcome.come
 
-pub record IsUncountedExactly (s : State) (now handle correlation number : ℕ) (change : Change) : Type 0 where
-  pub known : has s.counters handle number ≡ true → IsUncounted s now handle correlation number change
-  pub unknown : has s.counters handle number ≡ false → IsUnknown s now handle correlation UnknownCounter change
+pub record IsUncountedExactly (before s : State) (now handle correlation number : ℕ) (inputs : Inputs) (change : Change) : Type 0 where
+  pub known : has s.counters handle number ≡ true → IsUncounted before s now handle correlation number inputs change
+  pub unknown : has s.counters handle number ≡ false → IsUnknown before s now handle correlation inputs UnknownCounter change
 
 abbrev pub CountersAreRemovedExactly : Type 0
 CountersAreRemovedExactly =
     AfterAnyEvents (λ s.
     (now handle correlation : ℕ) (bytes : List ℕ) (inputs : Inputs) (client : Client) (fields : Removal) →
     Asks s handle bytes client correlation (RemovesCounter fields) →
-    IsUncountedExactly s now handle correlation fields.registration (conduct s (Command now handle bytes) inputs))
+    IsUncountedExactly s (ruled s now) now handle correlation fields.registration inputs (
+    conduct s (Command now handle bytes) inputs))
 
 -- ---- removed only
 
@@ -60,32 +69,40 @@ CountersAreRemovedOnly =
     AfterAnyEvents (λ s.
     (event : Event) (inputs : Inputs) (counter : Counter) → Contains s.counters counter →
     IsStillThere (state_after s event inputs) counter
-    ⊎ (IsAskedBy s event counter.client (RemovesCounter (record { registration = counter.number }))
-    ⊎ IsGoneBy s event counter.client))
+    ⊎ (IsAskedBy (coming_to s event) event counter.client (RemovesCounter (record { registration = counter.number }))
+    ⊎ IsGoneBy (coming_to s event) event counter.client))
 
 -- ---- set exactly
 
--- the client's counter of that number has that value; all else stays but for the moments
-pub record IsSet (s : State) (now handle correlation : ℕ) (fields : SetCounter) (change : Change) : Type 0 where
-  pub after_is :
-      change.after
-      ≡ record (heard (at_moment s now) handle) {
-        counters = set s.counters handle fields.registration fields.value;
-      }
-  pub told : change.outcome.replies ≡ record { client = handle; reply = OperationSuccess correlation } ∷ []
-  pub decided : change.outcome.decisions ≡ []
+-- the client's counter of that number has that value
+abbrev pub set_in : State → ℕ → ℕ → SetCounter → State
+set_in s now handle fields =
+    record (heard (at_moment s now) handle) { counters = set s.counters handle fields.registration fields.value }
 
-pub record IsSetExactly (s : State) (now handle correlation : ℕ) (fields : SetCounter) (change : Change) : Type 0 where
-  pub known : has s.counters handle fields.registration ≡ true → IsSet s now handle correlation fields change
+-- and it is answered so; all else stays but for the moments, and what the moment takes and brings
+pub record IsSet (before s : State) (now handle correlation : ℕ) (inputs : Inputs) (fields : SetCounter) (change : Change) : Type 0 where
+  pub after_is : change.after ≡ without_unread (set_in s now handle fields)
+  pub turns : TurnsTo before s change
+  pub told :
+      change.outcome.replies
+      ≡ record { client = handle; reply = OperationSuccess correlation }
+      ∷ images_told (set_in s now handle fields) inputs change.outcome.gone change.outcome.come
+  pub decided :
+      change.outcome.decisions ≡ images_decided (set_in s now handle fields) change.outcome.gone change.outcome.come
+
+pub record IsSetExactly (before s : State) (now handle correlation : ℕ) (inputs : Inputs) (fields : SetCounter) (change : Change) : Type 0 where
+  pub known :
+      has s.counters handle fields.registration ≡ true → IsSet before s now handle correlation inputs fields change
   pub unknown :
-      has s.counters handle fields.registration ≡ false → IsUnknown s now handle correlation UnknownCounter change
+      has s.counters handle fields.registration ≡ false →
+      IsUnknown before s now handle correlation inputs UnknownCounter change
 
 abbrev pub CountersAreSetExactly : Type 0
 CountersAreSetExactly =
     AfterAnyEvents (λ s.
     (now handle correlation : ℕ) (bytes : List ℕ) (inputs : Inputs) (client : Client) (fields : SetCounter) →
     Asks s handle bytes client correlation (Sets fields) →
-    IsSetExactly s now handle correlation fields (conduct s (Command now handle bytes) inputs))
+    IsSetExactly s (ruled s now) now handle correlation inputs fields (conduct s (Command now handle bytes) inputs))
 
 -- ---- set only
 
@@ -100,4 +117,5 @@ abbrev pub CountersAreSetOnly : Type 0
 CountersAreSetOnly =
     AfterAnyEvents (λ s.
     (event : Event) (inputs : Inputs) (counter : Counter) → Contains (state_after s event inputs).counters counter →
-    Contains s.counters counter ⊎ (IsSetBy s event counter ⊎ IsCounterMadeBy s event counter))
+    Contains s.counters counter
+    ⊎ (IsSetBy (coming_to s event) event counter ⊎ IsCounterMadeBy (coming_to s event) event counter))

@@ -5,7 +5,7 @@ use Rattle.driver_core.specs.Change.{Change}
 use Rattle.driver_core.specs.declared.event.Event.{Event}
 use Rattle.driver_core.specs.declared.event.Event.TheVariants.{Command}
 use Rattle.driver_core.specs.declared.event.Inputs.{Inputs}
-use Rattle.driver_core.specs.Conduct.{conduct}
+use Rattle.driver_core.specs.Conduct.{coming_to, conduct}
 use Rattle.driver_core.specs.Renewal.{image_decision}
 use Rattle.driver_core.specs.State.{State}
 use Rattle.driver_core.specs.Verdicts.{IsByPolicy}
@@ -49,4 +49,4 @@ IsInForce s event change decision = IsOnRequest s event decision ⊎ IsOnPair ch
 abbrev pub DecisionsAreByThePolicyInForce : Type 0
 DecisionsAreByThePolicyInForce =
     AfterAnyEvents (λ s. (event : Event) (inputs : Inputs) →
-    AllByRecursion (IsInForce s event (conduct s event inputs)) (conduct s event inputs).outcome.decisions)
+    AllByRecursion (IsInForce (coming_to s event) event (conduct s event inputs)) (conduct s event inputs).outcome.decisions)

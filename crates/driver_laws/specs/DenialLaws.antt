@@ -15,7 +15,7 @@ use Rattle.driver_core.specs.declared.replies.Reply.{Reply}
 use Rattle.driver_core.specs.declared.replies.Reply.TheVariants.{Error}
 use Rattle.driver_core.specs.declared.setup_fault.SetupFault.{SetupFault}
 use Rattle.driver_core.specs.declared.setup_fault.SetupFault.TheVariants as fault
-use Rattle.driver_core.specs.Conduct.{outcome_of}
+use Rattle.driver_core.specs.Conduct.{coming_to, outcome_of}
 use Rattle.driver_core.specs.Replies.{refusal_text}
 use Rattle.driver_core.specs.SettingUp.{wanted_by}
 use Rattle.driver_core.specs.State.{State}
@@ -92,4 +92,4 @@ pub record NamesDenials (s : State) (event : Event) (outcome : Outcome) : Type 0
 
 abbrev pub DenialsAreNamed : Type 0
 DenialsAreNamed =
-    AfterAnyEvents (λ s. (event : Event) (inputs : Inputs) → NamesDenials s event (outcome_of s event inputs))
+    AfterAnyEvents (λ s. (event : Event) (inputs : Inputs) → NamesDenials (coming_to s event) event (outcome_of s event inputs))

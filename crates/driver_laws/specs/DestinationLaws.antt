@@ -1,5 +1,5 @@
 -- Over every list of events: destinations are named as the policy in force says, each of a live publication.
-use Rattle.std.specs.Prelude.{◌≡◌, ℕ, ◌+◌, ◌<◌, ◌≤◌, ℤ, true, false, List, [], ◌∷◌, Contains, length, Some, ◌⊎◌}
+use Rattle.std.specs.Prelude.{◌≡◌, ℕ, ◌+◌, ◌<◌, ◌≤◌, ℤ, true, false, List, ◌∷◌, Contains, length, Some, ◌⊎◌}
 use Rattle.driver_core.specs.Change.{Change}
 use Rattle.driver_core.specs.declared.event.Event.{Event}
 use Rattle.driver_core.specs.declared.event.Event.TheVariants.{Command}
@@ -7,12 +7,15 @@ use Rattle.driver_core.specs.declared.event.Inputs.{Inputs}
 use Rattle.driver_core.specs.declared.refusal.Refusal.TheVariants.{Conflict, Denied, Full}
 use Rattle.driver_core.specs.declared.replies.Reply.TheVariants.{OperationSuccess}
 use Rattle.driver_core.specs.Commands.{heard}
-use Rattle.driver_core.specs.Conduct.{conduct, state_after, state_of}
+use Rattle.driver_core.specs.Conduct.{coming_to, conduct, state_after, state_of}
+use Rattle.driver_core.specs.Renewal.{images_decided, images_told}
 use Rattle.driver_core.specs.Requests.{AsksToDirect, DestinationRequest, PublicationRequest}
-use Rattle.driver_core.specs.State.{State, at_moment}
+use Rattle.driver_core.specs.State.{State, at_moment, ruled}
+use Rattle.driver_core.specs.Unread.{without_unread}
 use Rattle.driver_core.specs.Verdicts.{IsByPolicy, verdict_on}
 use Rattle.driver_laws.specs.Acts.{destination_question}
 use Rattle.driver_laws.specs.Events.{AfterAnyEvents}
+use Rattle.driver_laws.specs.Turning.{TurnsTo}
 use Rattle.driver_laws.specs.GrantLaws.{IsRefusedOn, decided_on}
 use Rattle.driver_laws.specs.PublishingLaws.{IsRegisteredBy}
 use Rattle.channel_uri.specs.declared.address.Address.{Address}
@@ -34,44 +37,51 @@ use Rattle.stream_registry.specs.Origins.{is_published}
 abbrev pub IsAllowed : State → DestinationRequest → Type 0
 IsAllowed s request = (verdict_on s (destination_question request)).allow ≡ true
 
--- the address is there for the publication under the next number of the destinations, named by the channel of the command
--- for the principal for whom the client acts, and the one reply is that it is so; all else stays but for the moments
-pub record IsDirected (s : State) (now handle : ℕ) (request : DestinationRequest) (change : Change) : Type 0 where
-  pub after_is :
-      change.after
-      ≡ record (heard (at_moment s now) handle) {
-        destinations =
-            added s.destinations request.target.source request.target.address request.client.principal request.channel;
-      }
+-- the registry with the address for the publication under the next number of the destinations, named by the channel of the command
+-- for the principal for whom the client acts
+abbrev pub directed_at : State → ℕ → ℕ → DestinationRequest → State
+directed_at s now handle request = record (heard (at_moment s now) handle) {
+  destinations =
+      added s.destinations request.target.source request.target.address request.client.principal request.channel;
+}
+
+-- it is there, and the event's own reply is that it is so; all else stays but for the moments, and what the moment takes and brings
+pub record IsDirected (before s : State) (now handle : ℕ) (inputs : Inputs) (request : DestinationRequest) (change : Change) : Type 0 where
+  pub after_is : change.after ≡ without_unread (directed_at s now handle request)
+  pub turns : TurnsTo before s change
   pub told :
-      change.outcome.replies ≡ record { client = handle; reply = OperationSuccess request.correlation } ∷ []
-  pub decided : change.outcome.decisions ≡ decided_on s (destination_question request) ∷ []
-  pub closes : change.outcome.closes ≡ []
+      change.outcome.replies
+      ≡ record { client = handle; reply = OperationSuccess request.correlation }
+      ∷ images_told (directed_at s now handle request) inputs change.outcome.gone change.outcome.come
+  pub decided :
+      change.outcome.decisions
+      ≡ decided_on s (destination_question request)
+      ∷ images_decided (directed_at s now handle request) change.outcome.gone change.outcome.come
 
 -- The verdict decides, which is the first matching rule's or the default's. Then the publication's destinations are to be
 -- named by hand, the address is not to be there yet, and there is to be room for it: the publication has fewer than 32, all
 -- have fewer than 8,192, and a number is left.
-pub record IsDirectedExactly (s : State) (now handle : ℕ) (request : DestinationRequest) (change : Change) : Type 0 where
+pub record IsDirectedExactly (before s : State) (now handle : ℕ) (inputs : Inputs) (request : DestinationRequest) (change : Change) : Type 0 where
   pub by : IsByPolicy s (destination_question request) (verdict_on s (destination_question request))
   pub granted :
       IsAllowed s request → request.target.manual ≡ true →
       has s.destinations.rows request.target.source request.target.address ≡ false →
-      has_room s.destinations request.target.source ≡ true → IsDirected s now handle request change
+      has_room s.destinations request.target.source ≡ true → IsDirected before s now handle inputs request change
   pub not_by_hand :
       IsAllowed s request → request.target.manual ≡ false →
-      IsRefusedOn s now handle request.correlation (destination_question request) Conflict change
+      IsRefusedOn before s now handle request.correlation inputs (destination_question request) Conflict change
   pub known :
       IsAllowed s request → request.target.manual ≡ true →
       has s.destinations.rows request.target.source request.target.address ≡ true →
-      IsRefusedOn s now handle request.correlation (destination_question request) Conflict change
+      IsRefusedOn before s now handle request.correlation inputs (destination_question request) Conflict change
   pub full :
       IsAllowed s request → request.target.manual ≡ true →
       has s.destinations.rows request.target.source request.target.address ≡ false →
       has_room s.destinations request.target.source ≡ false →
-      IsRefusedOn s now handle request.correlation (destination_question request) Full change
+      IsRefusedOn before s now handle request.correlation inputs (destination_question request) Full change
   pub denied :
       (verdict_on s (destination_question request)).allow ≡ false →
-      IsRefusedOn s now handle request.correlation (destination_question request)
+      IsRefusedOn before s now handle request.correlation inputs (destination_question request)
       (Denied (verdict_on s (destination_question request))) change
 
 abbrev pub DestinationsAreGrantedExactly : Type 0
@@ -79,7 +89,7 @@ DestinationsAreGrantedExactly =
     AfterAnyEvents (λ s.
     (now handle : ℕ) (bytes : List ℕ) (inputs : Inputs) (request : DestinationRequest) →
     AsksToDirect s handle bytes request →
-    IsDirectedExactly s now handle request (conduct s (Command now handle bytes) inputs))
+    IsDirectedExactly s (ruled s now) now handle inputs request (conduct s (Command now handle bytes) inputs))
 
 -- ---- of live publications
 
@@ -170,13 +180,14 @@ DestinationsAreGrantedOnly =
     AfterAnyEvents (λ s.
     (event : Event) (inputs : Inputs) (destination : Destination) →
     Contains (state_after s event inputs).destinations.rows destination →
-    Contains s.destinations.rows destination ⊎ (IsNamedBy s event destination ⊎ IsSoleBy s event destination))
+    Contains s.destinations.rows destination
+    ⊎ (IsNamedBy (coming_to s event) event destination ⊎ IsSoleBy (coming_to s event) event destination))
 
 -- and a log that an event makes for an endpoint has that one destination
 abbrev pub EndpointsAreSentTo : Type 0
 EndpointsAreSentTo =
     AfterAnyEvents (λ s.
-    (event : Event) (inputs : Inputs) (registration : Registration) (registered : IsRegisteredBy s event registration)
+    (event : Event) (inputs : Inputs) (registration : Registration) (registered : IsRegisteredBy (coming_to s event) event registration)
     (session : ℤ) (address : Address) → registered.adding ≡ Make session → IsEndpoint registered.request address →
     Contains (state_after s event inputs).destinations.rows
     (row_next s (s.last_number + 1) address registered.request.client.principal registered.request.channel))

@@ -8,13 +8,16 @@ use Rattle.driver_core.specs.declared.refusal.Refusal.{Refusal}
 use Rattle.driver_core.specs.declared.refusal.Refusal.TheVariants.{Denied, Full}
 use Rattle.driver_core.specs.declared.replies.Reply.TheVariants.{Error, OperationSuccess, CounterReady}
 use Rattle.driver_core.specs.Commands.{heard}
-use Rattle.driver_core.specs.Conduct.{conduct}
+use Rattle.driver_core.specs.Conduct.{coming_to, conduct}
 use Rattle.driver_core.specs.Counting.{has_room_for_counter}
+use Rattle.driver_core.specs.Renewal.{images_decided, images_told}
 use Rattle.driver_core.specs.Requests.{Asks}
-use Rattle.driver_core.specs.State.{State, at_moment}
+use Rattle.driver_core.specs.State.{State, at_moment, ruled}
+use Rattle.driver_core.specs.Unread.{without_unread}
 use Rattle.driver_core.specs.Verdicts.{IsByPolicy, verdict_on}
 use Rattle.driver_laws.specs.Acts.{counter_question, termination_question}
 use Rattle.driver_laws.specs.Events.{AfterAnyEvents}
+use Rattle.driver_laws.specs.Turning.{TurnsTo}
 use Rattle.driver_laws.specs.LeavingLaws.{IsTerminatedBy}
 use Rattle.client_registry.specs.declared.client.Client.{Client}
 use Rattle.client_registry.specs.Clients.{cleared}
@@ -39,38 +42,52 @@ decided_on s question = record {
   verdict = verdict_on s question;
 }
 
--- nothing changes but the moments, and the one reply says why
-pub record IsRefusedOn (s : State) (now handle correlation : ℕ) (question : Question) (refusal : Refusal) (change : Change) : Type 0 where
-  pub after_is : change.after ≡ heard (at_moment s now) handle
-  pub told : change.outcome.replies ≡ record { client = handle; reply = Error correlation refusal } ∷ []
-  pub decided : change.outcome.decisions ≡ decided_on s question ∷ []
+-- nothing changes but the moments, and the event's own reply says why; beside that it takes and brings what the moment does
+pub record IsRefusedOn (before s : State) (now handle correlation : ℕ) (inputs : Inputs) (question : Question) (refusal : Refusal) (change : Change) : Type 0 where
+  pub after_is : change.after ≡ without_unread (heard (at_moment s now) handle)
+  pub turns : TurnsTo before s change
+  pub told :
+      change.outcome.replies
+      ≡ record { client = handle; reply = Error correlation refusal }
+      ∷ images_told (heard (at_moment s now) handle) inputs change.outcome.gone change.outcome.come
+  pub decided :
+      change.outcome.decisions
+      ≡ decided_on s question ∷ images_decided (heard (at_moment s now) handle) change.outcome.gone change.outcome.come
 
 -- ---- counters
 
--- the counter stands after the others, under the next number and at 0, and the one reply names it
-pub record IsCounted (s : State) (now handle correlation : ℕ) (client : Client) (fields : AddCounter) (change : Change) : Type 0 where
-  pub after_is :
-      change.after
-      ≡ record (heard (at_moment s now) handle) {
-        counters = s.counters ++ made (s.last_number + 1) handle fields.type_id fields.key fields.label ∷ [];
-        last_number = s.last_number + 1;
-      }
+-- the registry with the counter after the others, under the next number and at 0
+abbrev pub counted_at : State → ℕ → ℕ → AddCounter → State
+counted_at s now handle fields = record (heard (at_moment s now) handle) {
+  counters = s.counters ++ made (s.last_number + 1) handle fields.type_id fields.key fields.label ∷ [];
+  last_number = s.last_number + 1;
+}
+
+-- it stands there, and the event's own reply names it; beside that the event takes and brings what the moment does
+pub record IsCounted (before s : State) (now handle correlation : ℕ) (inputs : Inputs) (client : Client) (fields : AddCounter) (change : Change) : Type 0 where
+  pub after_is : change.after ≡ without_unread (counted_at s now handle fields)
+  pub turns : TurnsTo before s change
   pub told :
-      change.outcome.replies ≡ record { client = handle; reply = CounterReady correlation (s.last_number + 1) } ∷ []
-  pub decided : change.outcome.decisions ≡ decided_on s (counter_question client fields) ∷ []
+      change.outcome.replies
+      ≡ record { client = handle; reply = CounterReady correlation (s.last_number + 1) }
+      ∷ images_told (counted_at s now handle fields) inputs change.outcome.gone change.outcome.come
+  pub decided :
+      change.outcome.decisions
+      ≡ decided_on s (counter_question client fields)
+      ∷ images_decided (counted_at s now handle fields) change.outcome.gone change.outcome.come
 
 -- the verdict decides, which is the first matching rule's or the default's, and then the room
-pub record IsCountedExactly (s : State) (now handle correlation : ℕ) (client : Client) (fields : AddCounter) (change : Change) : Type 0 where
+pub record IsCountedExactly (before s : State) (now handle correlation : ℕ) (inputs : Inputs) (client : Client) (fields : AddCounter) (change : Change) : Type 0 where
   pub by : IsByPolicy s (counter_question client fields) (verdict_on s (counter_question client fields))
   pub granted :
       (verdict_on s (counter_question client fields)).allow ≡ true → has_room_for_counter s ≡ true →
-      IsCounted s now handle correlation client fields change
+      IsCounted before s now handle correlation inputs client fields change
   pub full :
       (verdict_on s (counter_question client fields)).allow ≡ true → has_room_for_counter s ≡ false →
-      IsRefusedOn s now handle correlation (counter_question client fields) Full change
+      IsRefusedOn before s now handle correlation inputs (counter_question client fields) Full change
   pub denied :
       (verdict_on s (counter_question client fields)).allow ≡ false →
-      IsRefusedOn s now handle correlation (counter_question client fields)
+      IsRefusedOn before s now handle correlation inputs (counter_question client fields)
       (Denied (verdict_on s (counter_question client fields))) change
 
 abbrev pub CountersAreGrantedExactly : Type 0
@@ -78,7 +95,7 @@ CountersAreGrantedExactly =
     AfterAnyEvents (λ s.
     (now handle correlation : ℕ) (bytes : List ℕ) (inputs : Inputs) (client : Client) (fields : AddCounter) →
     Asks s handle bytes client correlation (AddsCounter fields) →
-    IsCountedExactly s now handle correlation client fields (conduct s (Command now handle bytes) inputs))
+    IsCountedExactly s (ruled s now) now handle correlation inputs client fields (conduct s (Command now handle bytes) inputs))
 
 -- ---- the end of the driver
 
@@ -97,13 +114,13 @@ pub record IsTerminated (s : State) (now handle correlation : ℕ) (client : Cli
   pub decided : change.outcome.decisions ≡ decided_on s (termination_question client) ∷ []
   pub closes : change.outcome.closes ≡ map place_of s.streams.sources
 
-pub record IsTerminatedExactly (s : State) (now handle correlation : ℕ) (client : Client) (change : Change) : Type 0 where
+pub record IsTerminatedExactly (before s : State) (now handle correlation : ℕ) (inputs : Inputs) (client : Client) (change : Change) : Type 0 where
   pub by : IsByPolicy s (termination_question client) (verdict_on s (termination_question client))
   pub granted :
       (verdict_on s (termination_question client)).allow ≡ true → IsTerminated s now handle correlation client change
   pub denied :
       (verdict_on s (termination_question client)).allow ≡ false →
-      IsRefusedOn s now handle correlation (termination_question client)
+      IsRefusedOn before s now handle correlation inputs (termination_question client)
       (Denied (verdict_on s (termination_question client))) change
 
 abbrev pub TerminationsAreGrantedExactly : Type 0
@@ -111,7 +128,7 @@ TerminationsAreGrantedExactly =
     AfterAnyEvents (λ s.
     (now handle correlation : ℕ) (bytes : List ℕ) (inputs : Inputs) (client : Client) (fields : TerminateDriver) →
     Asks s handle bytes client correlation (Terminates fields) →
-    IsTerminatedExactly s now handle correlation client (conduct s (Command now handle bytes) inputs))
+    IsTerminatedExactly s (ruled s now) now handle correlation inputs client (conduct s (Command now handle bytes) inputs))
 
 -- ---- granted only
 
@@ -144,4 +161,4 @@ pub record CountsAndEndsOnly (s : State) (event : Event) (change : Change) : Typ
 
 abbrev pub CountersAndTerminationsAreGrantedOnly : Type 0
 CountersAndTerminationsAreGrantedOnly =
-    AfterAnyEvents (λ s. (event : Event) (inputs : Inputs) → CountsAndEndsOnly s event (conduct s event inputs))
+    AfterAnyEvents (λ s. (event : Event) (inputs : Inputs) → CountsAndEndsOnly (coming_to s event) event (conduct s event inputs))

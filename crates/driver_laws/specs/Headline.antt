@@ -2,6 +2,7 @@
 -- Own rules.
 use Rattle.driver_laws.specs.ActLaws.{RulesAskAsListed}
 use Rattle.driver_laws.specs.AttachingLaws.{ClientsComeExactly, ClientsComeOnly}
+use Rattle.driver_laws.specs.CacheLaws.{CachedVerdictsAreRightUntilTheNextBound}
 use Rattle.driver_laws.specs.ClosingLaws.{LogsCloseExactly, LogsCloseOnly}
 use Rattle.driver_laws.specs.DatagramLaws.{DatagramsCarryTheLogsFrames}
 use Rattle.driver_laws.specs.DenialLaws.{DenialsAreNamed}
@@ -12,10 +13,12 @@ use Rattle.driver_laws.specs.GrantLaws.{CountersAndTerminationsAreGrantedOnly, C
 use Rattle.driver_laws.specs.ImageLaws.{ImagesAreGrantedExactly}
 use Rattle.driver_laws.specs.LearningLaws.{AddressesComeAndGoOnlySo}
 use Rattle.driver_laws.specs.ListingLaws.{CountersAreShownExactly}
+use Rattle.driver_laws.specs.MomentLaws.{LimitsCountWhatIsEverAllowed, MomentsTakeAndGiveExactly, PoliciesStandAtTheirMoment, RegistriesStayBetweenBounds, TicksAreNeverFull}
 use Rattle.driver_laws.specs.NewLogLaws.{NewLogsAreEmpty}
 use Rattle.driver_laws.specs.NumberLaws.{NumbersAreNeverDrawnAgain}
 use Rattle.driver_laws.specs.OlderLaws.{JoinsByAnyRegistryAreGrantedExactly, LooksByAnyRegistryAreShownExactly, NaksByAnyRegistryAreGrantedExactly, OffersByAnyRegistryAreGrantedExactly, PollsByAnyRegistryAreGrantedExactly, SendsByAnyRegistryAreGrantedExactly}
 use Rattle.driver_laws.specs.PublishingLaws.{ImagesComeBySetups, PublicationsAreGrantedExactly, PublicationsAreGrantedOnly}
+use Rattle.driver_laws.specs.RefusalLaws.{RefusedEventsTakeOnlyWhatTheMomentTakes}
 use Rattle.driver_laws.specs.ReloadLaws.{NewestPolicyIsInForce, ReloadsCloseExactly as ReloadedExactly}
 use Rattle.driver_laws.specs.SettingLaws.{SetupsAreGrantedExactly}
 use Rattle.driver_laws.specs.SoundnessLaws.{RegistriesAreSound}
@@ -57,9 +60,18 @@ pub record StepsAreDecided : Type 0 where
   pub resends : ResendsComeFromTheLiveLog
   pub resends_by_any : NaksByAnyRegistryAreGrantedExactly
 
--- granted only and exactly where the first matching rule of the policy in force allows it; what each rule asks is what the table
--- of acts says
+-- Which policy it is by which a registry decides: the one in force as it is at the greatest moment of the registry's events, which
+-- an event before the next bound of a rule leaves as it is. Up to that bound a verdict that was kept is right.
+pub record ByThePolicyAtItsMoment : Type 0 where
+  pub in_force : NewestPolicyIsInForce
+  pub at_moment : PoliciesStandAtTheirMoment
+  pub between : RegistriesStayBetweenBounds
+  pub kept : CachedVerdictsAreRightUntilTheNextBound
+
+-- granted only and exactly where the first matching rule of the policy in force allows it, at the moment of the registry that
+-- decides; what each rule asks is what the table of acts says
 pub record GrantedExactly : Type 0 where
+  pub by : ByThePolicyAtItsMoment
   pub subscriptions : SubscriptionsAreGrantedExactly
   pub subscriptions_only : SubscriptionsAreGrantedOnly
   pub publications : PublicationsAreGrantedExactly
@@ -82,16 +94,23 @@ pub record GrantedExactly : Type 0 where
 
 -- each denial names that rule, or the default
 pub record DenialsNameTheirRule : Type 0 where
+  pub by : ByThePolicyAtItsMoment
   pub denials : DenialsAreNamed
   pub decisions : DecisionsAreByThePolicyInForce
   pub steps : StepsAreDecided
   pub acts : RulesAskAsListed
   pub worlds : HoldOfWorlds
 
--- a policy that is put in force closes the images that are no longer allowed, and no others
+-- A policy that is put in force closes the images that are no longer allowed, and no others, and so does a moment, at which the one
+-- in force decides otherwise. What a refused event takes is what the moment takes; and a moment is never refused, since the limit of
+-- pairs counts what is ever allowed.
 pub record ReloadsCloseExactly : Type 0 where
   pub images : ReloadedExactly
-  pub in_force : NewestPolicyIsInForce
+  pub by : ByThePolicyAtItsMoment
+  pub moments : MomentsTakeAndGiveExactly
+  pub refused : RefusedEventsTakeOnlyWhatTheMomentTakes
+  pub counted : LimitsCountWhatIsEverAllowed
+  pub never_full : TicksAreNeverFull
   pub logs : LogsCloseExactly
   pub logs_only : LogsCloseOnly
   pub follow : LogsFollowTheRegistry

@@ -4,7 +4,7 @@ use Rattle.std.specs.List.{list_any}
 use Rattle.driver_core.specs.declared.event.Event.{Event}
 use Rattle.driver_core.specs.declared.event.Event.TheVariants.{Command, Tick}
 use Rattle.driver_core.specs.declared.event.Inputs.{Inputs}
-use Rattle.driver_core.specs.Conduct.{state_after}
+use Rattle.driver_core.specs.Conduct.{coming_to, state_after}
 use Rattle.driver_core.specs.Requests.{Asks}
 use Rattle.driver_core.specs.State.{State}
 use Rattle.driver_core.specs.Verdicts.{verdict_on}
@@ -57,14 +57,14 @@ is_there s client = list_any (λ row. row.number == client) s.clients.rows
 abbrev pub ClientsGoExactly : Type 0
 ClientsGoExactly =
     AfterAnyEvents (λ s.
-    (event : Event) (inputs : Inputs) (client : ℕ) → IsGoneBy s event client →
+    (event : Event) (inputs : Inputs) (client : ℕ) → IsGoneBy (coming_to s event) event client →
     is_there (state_after s event inputs) client ≡ false)
 
 abbrev pub ClientsGoOnly : Type 0
 ClientsGoOnly =
     AfterAnyEvents (λ s.
     (event : Event) (inputs : Inputs) (client : ℕ) → is_there s client ≡ true →
-    (is_there (state_after s event inputs) client ≡ true) ⊎ IsGoneBy s event client)
+    (is_there (state_after s event inputs) client ≡ true) ⊎ IsGoneBy (coming_to s event) event client)
 
 -- ---- what goes with it
 
@@ -79,5 +79,5 @@ pub record HasNothing (s : State) (client : ℕ) : Type 0 where
 abbrev pub RowsGoWithTheirClient : Type 0
 RowsGoWithTheirClient =
     AfterAnyEvents (λ s.
-    (event : Event) (inputs : Inputs) (client : ℕ) → IsGoneBy s event client →
+    (event : Event) (inputs : Inputs) (client : ℕ) → IsGoneBy (coming_to s event) event client →
     HasNothing (state_after s event inputs) client)

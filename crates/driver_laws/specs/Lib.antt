@@ -1,6 +1,7 @@
 pub mod ActLaws
 pub mod Acts
 pub mod AttachingLaws
+pub mod CacheLaws
 pub mod ClosingLaws
 pub mod CounterLaws
 pub mod DatagramLaws
@@ -17,6 +18,7 @@ pub mod LearningLaws
 pub mod LeavingLaws
 pub mod LimitLaws
 pub mod ListingLaws
+pub mod MomentLaws
 pub mod NewLogLaws
 pub mod NumberLaws
 pub mod OlderLaws
@@ -29,6 +31,7 @@ pub mod SettingLaws
 pub mod SoundnessLaws
 pub mod StepActs
 pub mod SubscribingLaws
+pub mod Turning
 pub mod UniqueImageLaws
 pub mod UniquePublicationLaws
 pub mod WidthLaws

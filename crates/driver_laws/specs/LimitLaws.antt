@@ -1,7 +1,7 @@
 -- Over every list of events: no list grows past its limit.
 use Rattle.std.specs.Prelude.{◌≡◌, ℕ, ◌<◌, ◌≤◌, ℤ, true, length, filter, Ok, Err, ◌⊎◌}
 use Rattle.driver_core.specs.Counting.{has_room_for_counter}
-use Rattle.driver_core.specs.Pairs.{pairs_of}
+use Rattle.driver_core.specs.Pairs.{pairs_of, prospects_of}
 use Rattle.driver_core.specs.Publishing.{has_room_for_publication, with_publication}
 use Rattle.driver_core.specs.Reloading.{has_room_for_policy, in_force}
 use Rattle.driver_core.specs.SettingUp.{has_room_for_setup, with_image}
@@ -24,7 +24,7 @@ use Rattle.stream_registry.specs.Origins.{is_published, is_remote}
 -- ---- none is passed
 
 -- at most 64 clients, 256 publications and 512 images, 1,024 registrations with publications, 512 subscriptions, 1,024
--- counters and 4,096 pairs
+-- counters and 4,096 pairs, those counted that are not allowed yet and will be at a later moment
 pub record IsWithinLimits (s : State) : Type 0 where
   pub clients : length s.clients.rows ≤ 64
   pub sources : AreFew s.streams.sources
@@ -32,6 +32,7 @@ pub record IsWithinLimits (s : State) : Type 0 where
   pub subscriptions : length s.streams.subscriptions ≤ 512
   pub counters : length s.counters ≤ 1024
   pub pairs : length (pairs_of s) ≤ 4096
+  pub prospects : length (prospects_of s) ≤ 4096
 
 abbrev pub LimitsAreKept : Type 0
 LimitsAreKept = AfterAnyEvents IsWithinLimits
@@ -48,11 +49,11 @@ pub record HasRoomBelow (s : State) : Type 0 where
   pub client : length s.clients.rows < 64 → IsLeft s.clients.last → has_room s.clients ≡ true
   pub subscription :
       (client : ℕ) (channel : Shape) (stream : ℤ) → IsLeft s.last_number → length s.streams.subscriptions < 512 →
-      length (pairs_of (with_subscription s client channel stream)) ≤ 4096 →
+      length (prospects_of (with_subscription s client channel stream)) ≤ 4096 →
       has_room_for_subscription s client channel stream ≡ true
   pub publication :
       (client : ℕ) (wanted : Wanted) (adding : Adding) → IsLeft s.last_number → IsLeft s.destinations.last →
-      adding_of s.streams wanted ≡ Ok adding → length (pairs_of (with_publication s client wanted adding)) ≤ 4096 →
+      adding_of s.streams wanted ≡ Ok adding → length (prospects_of (with_publication s client wanted adding)) ≤ 4096 →
       has_room_for_publication s client wanted adding ≡ true
   pub destination :
       (source : ℕ) → HasPublication s.streams.sources source → IsLeft s.destinations.last →
@@ -62,10 +63,10 @@ pub record HasRoomBelow (s : State) : Type 0 where
       (1024 ≤ length s.streams.registrations) ⊎ (256 ≤ length (filter is_published s.streams.sources))
   pub image :
       (wanted : ImageWanted) → IsLeft s.last_number → length (filter is_remote s.streams.sources) < 512 →
-      length (pairs_of (with_image s wanted)) ≤ 4096 → has_room_for_setup s wanted ≡ true
+      length (prospects_of (with_image s wanted)) ≤ 4096 → has_room_for_setup s wanted ≡ true
   pub counter : IsLeft s.last_number → length s.counters < 1024 → has_room_for_counter s ≡ true
   pub policy :
-      (policy : Rules) → IsLeft s.epoch → length (pairs_of (in_force s policy)) ≤ 4096 →
+      (policy : Rules) → IsLeft s.epoch → length (prospects_of (in_force s policy)) ≤ 4096 →
       has_room_for_policy s policy ≡ true
 
 abbrev pub RoomIsLeftBelowTheLimits : Type 0

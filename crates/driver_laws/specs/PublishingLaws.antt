@@ -1,5 +1,5 @@
 -- Over every list of events: publications are granted as the policy in force says, and not otherwise.
-use Rattle.std.specs.Prelude.{◌≡◌, ℕ, ◌+◌, ℤ, Bool, true, false, List, [], ◌∷◌, Contains, Some, Ok, Err, unwrap_or, ◌⊎◌}
+use Rattle.std.specs.Prelude.{◌≡◌, ℕ, ◌+◌, ℤ, Bool, true, false, List, ◌∷◌, Contains, Some, Ok, Err, unwrap_or, ◌⊎◌}
 use Rattle.std.specs.List.{AllByRecursion}
 use Rattle.driver_core.specs.Change.{Change}
 use Rattle.driver_core.specs.declared.event.Event.{Event}
@@ -9,16 +9,18 @@ use Rattle.driver_core.specs.declared.refusal.Refusal.TheVariants.{Denied, Full,
 use Rattle.driver_core.specs.declared.replies.Reply.{Reply}
 use Rattle.driver_core.specs.declared.replies.Reply.TheVariants.{PublicationReady, ExclusivePublicationReady}
 use Rattle.driver_core.specs.Commands.{heard}
-use Rattle.driver_core.specs.Conduct.{conduct, state_after}
+use Rattle.driver_core.specs.Conduct.{coming_to, conduct, state_after}
 use Rattle.driver_core.specs.Publishing.{has_place, has_room_for_publication, opening_of, place_of_new, ready_for, refused_by_streams, session_of, with_directed_publication}
 use Rattle.driver_core.specs.Renewal.{images_told, images_decided}
 use Rattle.driver_core.specs.Requests.{PublicationRequest, AsksToPublish, wanted_by}
 use Rattle.driver_core.specs.SettingUp.{new_image, setting_of, wanted_by as image_wanted_by}
-use Rattle.driver_core.specs.State.{State, at_moment}
+use Rattle.driver_core.specs.State.{State, at_moment, ruled}
+use Rattle.driver_core.specs.Unread.{without_unread}
 use Rattle.driver_core.specs.Verdicts.{IsByPolicy, verdict_on}
 use Rattle.driver_laws.specs.Acts.{publication_question}
 use Rattle.driver_laws.specs.ClosingLaws.{IsSameLog}
 use Rattle.driver_laws.specs.Events.{AfterAnyEvents}
+use Rattle.driver_laws.specs.Turning.{TurnsTo}
 use Rattle.driver_laws.specs.GrantLaws.{IsRefusedOn, decided_on}
 use Rattle.channel_uri.specs.declared.address.Address.{Address}
 use Rattle.frame_codec.specs.declared.join.Join.{Join as JoinedAt}
@@ -37,47 +39,52 @@ use Rattle.stream_registry.specs.Streams.{Streams}
 abbrev pub IsAllowed : State → PublicationRequest → Type 0
 IsAllowed s request = (verdict_on s (publication_question request)).allow ≡ true
 
--- the client is registered under the next number with the log that it joins or that is made for it, which has its one
--- destination if its channel names one; its own reply names the two, before those of the images that come by it
-pub record IsPublished (s : State) (now handle : ℕ) (inputs : Inputs) (request : PublicationRequest) (adding : Adding) (change : Change) : Type 0 where
-  pub after_is :
-      change.after ≡ with_directed_publication (heard (at_moment s now) handle) request.client (wanted_by request) adding
+-- the registry with the client registered under the next number with the log that it joins or that is made for it, which has its
+-- one destination if its channel names one
+abbrev pub published_at : State → ℕ → ℕ → PublicationRequest → Adding → State
+published_at s now handle request adding =
+    with_directed_publication (heard (at_moment s now) handle) request.client (wanted_by request) adding
+
+-- it is so, but for images that none reads any more; the client's own reply names the two, before those of the images that come
+-- and go with it
+pub record IsPublished (before s : State) (now handle : ℕ) (inputs : Inputs) (request : PublicationRequest) (adding : Adding) (change : Change) : Type 0 where
+  pub after_is : change.after ≡ without_unread (published_at s now handle request adding)
+  pub turns : TurnsTo before (published_at s now handle request adding) change
   pub told :
       change.outcome.replies
       ≡ record {
         client = handle;
         reply = ready_for (wanted_by request) request.correlation (s.last_number + 1) (session_of adding);
       }
-      ∷ images_told change.after inputs change.outcome.gone change.outcome.come
+      ∷ images_told (published_at s now handle request adding) inputs change.outcome.gone change.outcome.come
   pub decided :
       change.outcome.decisions
       ≡ decided_on s (publication_question request)
-      ∷ images_decided change.after change.outcome.gone change.outcome.come
+      ∷ images_decided (published_at s now handle request adding) change.outcome.gone change.outcome.come
   pub opens : change.outcome.opens ≡ opening_of s (wanted_by request) adding
-  pub closes : change.outcome.closes ≡ []
 
 -- the verdict decides, which is the first matching rule's or the default's; then what is there, the limits, and the room
 -- for a log
-pub record IsPublishedExactly (s : State) (now handle : ℕ) (inputs : Inputs) (request : PublicationRequest) (change : Change) : Type 0 where
+pub record IsPublishedExactly (before s : State) (now handle : ℕ) (inputs : Inputs) (request : PublicationRequest) (change : Change) : Type 0 where
   pub by : IsByPolicy s (publication_question request) (verdict_on s (publication_question request))
   pub granted :
       (adding : Adding) → IsAllowed s request → adding_of s.streams (wanted_by request) ≡ Ok adding →
       has_room_for_publication s handle (wanted_by request) adding ≡ true → has_place s (wanted_by request) adding ≡ true →
-      IsPublished s now handle inputs request adding change
+      IsPublished before s now handle inputs request adding change
   pub refused :
       (fault : StreamFault) → IsAllowed s request → adding_of s.streams (wanted_by request) ≡ Err fault →
-      IsRefusedOn s now handle request.correlation (publication_question request) (refused_by_streams fault) change
+      IsRefusedOn before s now handle request.correlation inputs (publication_question request) (refused_by_streams fault) change
   pub full :
       (adding : Adding) → IsAllowed s request → adding_of s.streams (wanted_by request) ≡ Ok adding →
       has_room_for_publication s handle (wanted_by request) adding ≡ false →
-      IsRefusedOn s now handle request.correlation (publication_question request) Full change
+      IsRefusedOn before s now handle request.correlation inputs (publication_question request) Full change
   pub no_room :
       (adding : Adding) → IsAllowed s request → adding_of s.streams (wanted_by request) ≡ Ok adding →
       has_room_for_publication s handle (wanted_by request) adding ≡ true → has_place s (wanted_by request) adding ≡ false →
-      IsRefusedOn s now handle request.correlation (publication_question request) NoRoom change
+      IsRefusedOn before s now handle request.correlation inputs (publication_question request) NoRoom change
   pub denied :
       (verdict_on s (publication_question request)).allow ≡ false →
-      IsRefusedOn s now handle request.correlation (publication_question request)
+      IsRefusedOn before s now handle request.correlation inputs (publication_question request)
       (Denied (verdict_on s (publication_question request))) change
 
 abbrev pub PublicationsAreGrantedExactly : Type 0
@@ -85,7 +92,7 @@ PublicationsAreGrantedExactly =
     AfterAnyEvents (λ s.
     (now handle : ℕ) (bytes : List ℕ) (inputs : Inputs) (request : PublicationRequest) →
     AsksToPublish s handle bytes request →
-    IsPublishedExactly s now handle inputs request (conduct s (Command now handle bytes) inputs))
+    IsPublishedExactly s (ruled s now) now handle inputs request (conduct s (Command now handle bytes) inputs))
 
 -- ---- granted only
 
@@ -175,7 +182,7 @@ pub record PublishesOnly (s : State) (event : Event) (change : Change) : Type 0 
 
 abbrev pub PublicationsAreGrantedOnly : Type 0
 PublicationsAreGrantedOnly =
-    AfterAnyEvents (λ s. (event : Event) (inputs : Inputs) → PublishesOnly s event (conduct s event inputs))
+    AfterAnyEvents (λ s. (event : Event) (inputs : Inputs) → PublishesOnly (coming_to s event) event (conduct s event inputs))
 
 -- ---- images
 
@@ -184,4 +191,4 @@ abbrev pub ImagesComeBySetups : Type 0
 ImagesComeBySetups =
     AfterAnyEvents (λ s.
     (event : Event) (inputs : Inputs) (log : Source) → Contains (state_after s event inputs).streams.sources log →
-    is_remote log ≡ true → WasLive s.streams log ⊎ IsImageMadeBy s event log)
+    is_remote log ≡ true → WasLive s.streams log ⊎ IsImageMadeBy (coming_to s event) event log)

@@ -1,5 +1,5 @@
 -- Over every list of events: SETUPs make images as the policy in force says, and are dropped otherwise.
-use Rattle.std.specs.Prelude.{◌≡◌, ℕ, ◌+◌, ◌<◌, ◌≤◌, true, false, [], length, filter, Contains, Some, None, Result, Ok, Err}
+use Rattle.std.specs.Prelude.{◌≡◌, ℕ, ◌+◌, ◌<◌, ◌≤◌, true, false, length, filter, Contains, Some, None, Result, Ok, Err}
 use Rattle.driver_core.specs.Change.{Change}
 use Rattle.driver_core.specs.declared.event.Event.TheVariants.{Setup}
 use Rattle.driver_core.specs.declared.event.Inputs.{Inputs}
@@ -7,13 +7,15 @@ use Rattle.driver_core.specs.declared.outcome.Response.TheVariants.{Dropped, Ima
 use Rattle.driver_core.specs.declared.setup_fault.SetupFault.{SetupFault}
 use Rattle.driver_core.specs.declared.setup_fault.SetupFault.TheVariants.{BadSetup, Exists, NoSubscription, Denied, Full, NoRoom}
 use Rattle.driver_core.specs.Conduct.{conduct}
-use Rattle.driver_core.specs.Pairs.{pairs_of}
+use Rattle.driver_core.specs.Pairs.{prospects_of}
 use Rattle.driver_core.specs.Renewal.{images_decided, images_told}
 use Rattle.driver_core.specs.SettingUp.{new_image, setting_of, wanted_by, with_image}
-use Rattle.driver_core.specs.State.{State, at_moment}
+use Rattle.driver_core.specs.State.{State, at_moment, ruled}
+use Rattle.driver_core.specs.Unread.{without_unread}
 use Rattle.driver_core.specs.Verdicts.{IsByPolicy, verdict_on}
 use Rattle.driver_laws.specs.Acts.{image_question}
 use Rattle.driver_laws.specs.Events.{AfterAnyEvents}
+use Rattle.driver_laws.specs.Turning.{TurnsTo}
 use Rattle.driver_laws.specs.LimitLaws.{IsLeft}
 use Rattle.channel_uri.specs.declared.address.Address.{Address}
 use Rattle.client_registry.specs.Clients.{principal_at}
@@ -78,11 +80,11 @@ pub record IsDeniedToAll (s : State) (now : ℕ) (wanted : ImageWanted) (verdict
       fits (new_image (at_moment s now) wanted) other ≡ true → principal_at s.clients.rows other.client ≡ Some of →
       (verdict_on s (image_question of other)).allow ≡ false
 
--- there are fewer than 512 images, a number is left, and at most 4,096 pairs would be there with it
+-- there are fewer than 512 images, a number is left, and at most 4,096 pairs would be there with it, at this moment or a later one
 pub record HasRoom (s : State) (now : ℕ) (wanted : ImageWanted) : Type 0 where
   pub images : length (filter is_remote s.streams.sources) < 512
   pub number : IsLeft s.last_number
-  pub pairs : length (pairs_of (with_image (at_moment s now) wanted)) ≤ 4096
+  pub pairs : length (prospects_of (with_image (at_moment s now) wanted)) ≤ 4096
 
 -- from that place on its three terms lie in the arena, and have no page of another log
 abbrev pub IsVacantFor : State → ImageWanted → ℕ → Type 0
@@ -116,43 +118,46 @@ IsDecided s now wanted (Err fault) = IsCause s now wanted fault
 
 -- ---- what the event comes to
 
--- its number is reported, its log opens at that place, and it is live after the others, which all stay; what is reported beside that
--- is of the images that come by it
-pub record IsImaged (s : State) (now : ℕ) (inputs : Inputs) (wanted : ImageWanted) (place : ℕ) (change : Change) : Type 0 where
-  pub after_is : change.after ≡ with_image (at_moment s now) wanted
+-- its number is reported, its log opens at that place, and it is live after the others, which all stay but for those that the moment
+-- leaves unread; what is reported beside that is of the images that come and go with it
+pub record IsImaged (before s : State) (now : ℕ) (inputs : Inputs) (wanted : ImageWanted) (place : ℕ) (change : Change) : Type 0 where
+  pub after_is : change.after ≡ without_unread (with_image (at_moment s now) wanted)
   pub response : change.outcome.response ≡ Imaged (s.last_number + 1)
   pub opens : change.outcome.opens ≡ Some (record { source = s.last_number + 1; place = place })
   pub placed : (new_image (at_moment s now) wanted).place ≡ place
   pub live : Contains change.after.streams.sources (new_image (at_moment s now) wanted)
   pub allowed : IsAllowedToOne s now wanted
+  pub turns : TurnsTo before (with_image (at_moment s now) wanted) change
   pub replies :
-      change.outcome.replies ≡ images_told change.after inputs change.outcome.gone change.outcome.come
-  pub decisions : change.outcome.decisions ≡ images_decided change.after change.outcome.gone change.outcome.come
-  pub closes : change.outcome.closes ≡ []
+      change.outcome.replies
+      ≡ images_told (with_image (at_moment s now) wanted) inputs change.outcome.gone change.outcome.come
+  pub decisions :
+      change.outcome.decisions
+      ≡ images_decided (with_image (at_moment s now) wanted) change.outcome.gone change.outcome.come
 
--- nothing changes but the moment, and nobody but who sent the event is answered
-pub record IsDropped (s : State) (now : ℕ) (fault : SetupFault) (change : Change) : Type 0 where
-  pub after_is : change.after ≡ at_moment s now
+-- nothing changes but the moment, and what it takes and brings, and nobody but who sent the event is answered anything else
+pub record IsDropped (before s : State) (now : ℕ) (inputs : Inputs) (fault : SetupFault) (change : Change) : Type 0 where
+  pub after_is : change.after ≡ without_unread (at_moment s now)
   pub response : change.outcome.response ≡ Dropped fault
-  pub replies : change.outcome.replies ≡ []
-  pub decisions : change.outcome.decisions ≡ []
+  pub turns : TurnsTo before s change
+  pub replies :
+      change.outcome.replies ≡ images_told (at_moment s now) inputs change.outcome.gone change.outcome.come
+  pub decisions :
+      change.outcome.decisions ≡ images_decided (at_moment s now) change.outcome.gone change.outcome.come
   pub opens : change.outcome.opens ≡ None
-  pub closes : change.outcome.closes ≡ []
-  pub gone : change.outcome.gone ≡ []
-  pub come : change.outcome.come ≡ []
 
 -- ---- exactly so
 
 -- A SETUP that no sender may send is dropped. Else the image may come, or there is a cause, and that decides.
-pub record IsSetExactly (s : State) (now : ℕ) (local from : Address) (setup : SetupFrame) (inputs : Inputs) (change : Change) : Type 0 where
-  pub bad : join_of setup ≡ None → IsDropped s now BadSetup change
+pub record IsSetExactly (before s : State) (now : ℕ) (local from : Address) (setup : SetupFrame) (inputs : Inputs) (change : Change) : Type 0 where
+  pub bad : join_of setup ≡ None → IsDropped before s now inputs BadSetup change
   pub made :
       (join : Join) (place : ℕ) → join_of setup ≡ Some join →
       MayCome s now (wanted_by local from setup join) place →
-      IsImaged s now inputs (wanted_by local from setup join) place change
+      IsImaged before s now inputs (wanted_by local from setup join) place change
   pub dropped :
       (join : Join) (fault : SetupFault) → join_of setup ≡ Some join →
-      IsCause s now (wanted_by local from setup join) fault → IsDropped s now fault change
+      IsCause s now (wanted_by local from setup join) fault → IsDropped before s now inputs fault change
   pub decided :
       (join : Join) → join_of setup ≡ Some join →
       IsDecided s now (wanted_by local from setup join) (setting_of (at_moment s now) (wanted_by local from setup join))
@@ -161,4 +166,4 @@ abbrev pub SetupsAreGrantedExactly : Type 0
 SetupsAreGrantedExactly =
     AfterAnyEvents (λ s.
     (now : ℕ) (local from : Address) (setup : SetupFrame) (inputs : Inputs) →
-    IsSetExactly s now local from setup inputs (conduct s (Setup now local from setup) inputs))
+    IsSetExactly s (ruled s now) now local from setup inputs (conduct s (Setup now local from setup) inputs))

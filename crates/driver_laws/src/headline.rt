@@ -7,7 +7,7 @@ ghost use Rattle.driver_laws.specs.FrameLaws.{FramesAreWhatWasPut};
 ghost use Rattle.driver_laws.specs.LearningLaws.{AddressesComeAndGoOnlySo};
 ghost use Rattle.driver_laws.specs.NewLogLaws.{NewLogsAreEmpty};
 ghost use Rattle.driver_laws.specs.OlderLaws.{JoinsByAnyRegistryAreGrantedExactly, LooksByAnyRegistryAreShownExactly, NaksByAnyRegistryAreGrantedExactly, OffersByAnyRegistryAreGrantedExactly, PollsByAnyRegistryAreGrantedExactly, SendsByAnyRegistryAreGrantedExactly};
-ghost use Rattle.driver_laws.specs.Headline.{BytesComeOnlyFromTheLiveLog, DenialsNameTheirRule, GrantedExactly, HoldOfWorlds, ReloadsCloseExactly, StepsAreDecided};
+ghost use Rattle.driver_laws.specs.Headline.{ByThePolicyAtItsMoment, BytesComeOnlyFromTheLiveLog, DenialsNameTheirRule, GrantedExactly, HoldOfWorlds, ReloadsCloseExactly, StepsAreDecided};
 
 use crate::acts::rules_ask_as_listed;
 use crate::worlds::{
@@ -15,15 +15,18 @@ use crate::worlds::{
     worlds_are_served_from_the_live_log,
 };
 use crate::{
-    clients_come_exactly, clients_come_only, counters_and_terminations_are_granted_only,
-    counters_are_granted_exactly, counters_are_shown_exactly, decisions_are_by_the_policy_in_force,
-    denials_are_named, destinations_are_granted_exactly, destinations_are_granted_only,
-    endpoints_are_sent_to, images_are_granted_exactly, images_come_by_setups, logs_close_exactly,
-    logs_close_only, newest_policy_is_in_force, numbers_are_never_drawn_again,
+    cached_verdicts_are_right_until_the_next_bound, clients_come_exactly, clients_come_only,
+    counters_and_terminations_are_granted_only, counters_are_granted_exactly,
+    counters_are_shown_exactly, decisions_are_by_the_policy_in_force, denials_are_named,
+    destinations_are_granted_exactly, destinations_are_granted_only, endpoints_are_sent_to,
+    images_are_granted_exactly, images_come_by_setups, limits_count_what_is_ever_allowed,
+    logs_close_exactly, logs_close_only, moments_take_and_give_exactly, newest_policy_is_in_force,
+    numbers_are_never_drawn_again, policies_stand_at_their_moment,
     publications_are_granted_exactly, publications_are_granted_only, publications_are_unique,
-    registries_are_sound, reloads_close_exactly, setups_are_granted_exactly,
+    refused_events_take_only_what_the_moment_takes, registries_are_sound,
+    registries_stay_between_bounds, reloads_close_exactly, setups_are_granted_exactly,
     subscriptions_are_granted_exactly, subscriptions_are_granted_only,
-    terminations_are_granted_exactly,
+    terminations_are_granted_exactly, ticks_are_never_full,
 };
 use driver_steps::{
     addresses_are_learnt_exactly, bytes_come_from_the_live_log, logs_follow_the_registry,
@@ -32,14 +35,26 @@ use driver_steps::{
 };
 use driver_world::{registries_were_newest, runs_are_of_the_driver};
 
-/// A well-formed request is granted only and exactly where the first matching rule of the policy in force at its step, or
-/// else the default, allows its principal: a subscription, a publication, a destination, a counter, the end of the driver, an
+/// A registry decides by the policy that is in force there, as it is at the greatest moment of the registry's events; a verdict that
+/// was kept is right up to the next bound of a rule.
+pub fn by_the_policy_at_its_moment()
+    ensures { ByThePolicyAtItsMoment }
+{
+    newest_policy_is_in_force();
+    policies_stand_at_their_moment();
+    registries_stay_between_bounds();
+    cached_verdicts_are_right_until_the_next_bound();
+}
+
+/// A well-formed request is granted only and exactly where the first matching rule of the policy in force at its step, at that
+/// registry's moment, or else the default, allows its principal: a subscription, a publication, a destination, a counter, the end of the driver, an
 /// image, an offer, a poll, a datagram to a destination, an address that a status message makes one, frames that are sent again, a
 /// look at a counter. The laws on offers, polls, datagrams, such addresses, frames that are sent again and looks are on steps by
 /// any registry that the run went through. Destinations, such addresses and clients come only so.
 pub fn granted_exactly()
     ensures { GrantedExactly }
 {
+    by_the_policy_at_its_moment();
     subscriptions_are_granted_exactly();
     subscriptions_are_granted_only();
     publications_are_granted_exactly();
@@ -174,6 +189,7 @@ pub fn new_logs_are_empty()
 pub fn denials_name_their_rule()
     ensures { DenialsNameTheirRule }
 {
+    by_the_policy_at_its_moment();
     denials_are_named();
     decisions_are_by_the_policy_in_force();
     steps_are_decided();
@@ -181,13 +197,17 @@ pub fn denials_name_their_rule()
     worlds_follow();
 }
 
-/// A policy that is put in force closes exactly the images that it no longer allows, and their logs; one that is refused
-/// closes nothing.
+/// A policy that is put in force closes exactly the images that it no longer allows, and their logs, and so does a moment at which
+/// the policy in force decides otherwise; a reload, or another event, that is refused closes only what the moment closes.
 pub fn a_reload_closes_exactly()
     ensures { ReloadsCloseExactly }
 {
     reloads_close_exactly();
-    newest_policy_is_in_force();
+    by_the_policy_at_its_moment();
+    moments_take_and_give_exactly();
+    refused_events_take_only_what_the_moment_takes();
+    limits_count_what_is_ever_allowed();
+    ticks_are_never_full();
     logs_close_exactly();
     logs_close_only();
     logs_follow_the_registry();

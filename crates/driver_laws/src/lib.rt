@@ -1,6 +1,8 @@
 //! What a driver promises: the four sentences of [`headline`], and the laws of which they are made, on the registry over
-//! every list of events, and on [`worlds`]. The laws cite one table of [`acts`]. Each function does nothing, and its clause is the law. The laws speak of `outcome_of` and
-//! `state_after`, which `Registry::step` meets, and of words that this crate's `specs/` define by them.
+//! every list of events, and on [`worlds`]. The laws cite one table of [`acts`]. Each function does nothing, and its clause is
+//! the law. The laws speak of `outcome_of` and `state_after`, which `Registry::step` meets, and of words that this crate's
+//! `specs/` define by them. An event comes to the registry with its policy as it is at the event's moment, and by that it is
+//! decided; what goes and comes is what the pairs before the event, at the moment before, and those after it differ in.
 #![tactic(auto)]
 
 pub mod acts;
@@ -8,6 +10,7 @@ pub mod headline;
 pub mod worlds;
 
 ghost use Rattle.driver_laws.specs.AttachingLaws.{ClientsComeExactly, ClientsComeOnly};
+ghost use Rattle.driver_laws.specs.CacheLaws.{CachedVerdictsAreRightUntilTheNextBound};
 ghost use Rattle.driver_laws.specs.ClosingLaws.{ClosedLogsWereThere, LogsCloseExactly, LogsCloseOnly};
 ghost use Rattle.driver_laws.specs.CounterLaws.{CountersAreRemovedExactly, CountersAreRemovedOnly, CountersAreSetExactly, CountersAreSetOnly};
 ghost use Rattle.driver_laws.specs.DecisionLaws.{DecisionsAreByThePolicyInForce};
@@ -19,10 +22,11 @@ ghost use Rattle.driver_laws.specs.ImageTellingLaws.{ImagesAreToldExactly};
 ghost use Rattle.driver_laws.specs.LeavingLaws.{ClientsGoExactly, ClientsGoOnly, RowsGoWithTheirClient};
 ghost use Rattle.driver_laws.specs.LimitLaws.{LimitsAreKept, RoomIsLeftBelowTheLimits};
 ghost use Rattle.driver_laws.specs.ListingLaws.{CountersAreShownExactly};
+ghost use Rattle.driver_laws.specs.MomentLaws.{LimitsCountWhatIsEverAllowed, MomentsTakeAndGiveExactly, PoliciesStandAtTheirMoment, RegistriesStayBetweenBounds, TicksAreNeverFull};
 ghost use Rattle.driver_laws.specs.NumberLaws.{LastNumbersNeverFall, ListsShareNoNumber, NewNumbersAreAboveTheLast, NumbersAreAtMostTheLast, NumbersAreNeverDrawnAgain, NumbersAreUnique};
 ghost use Rattle.driver_laws.specs.OwnerLaws.{RegistrationsHaveTheirLogs, RowsHaveTheirClients};
 ghost use Rattle.driver_laws.specs.PublishingLaws.{PublicationsAreGrantedExactly, PublicationsAreGrantedOnly, ImagesComeBySetups};
-ghost use Rattle.driver_laws.specs.RefusalLaws.{RefusalsChangeNoMoreThanMoments};
+ghost use Rattle.driver_laws.specs.RefusalLaws.{RefusalsChangeNoMoreThanMoments, RefusedEventsTakeOnlyWhatTheMomentTakes};
 ghost use Rattle.driver_laws.specs.ReloadLaws.{ReloadsCloseExactly, NewestPolicyIsInForce};
 ghost use Rattle.driver_laws.specs.RemovalLaws.{SubscriptionsAreRemovedExactly, SubscriptionsAreRemovedOnly, RegistrationsAreRemovedExactly, RegistrationsAreRemovedOnly};
 ghost use Rattle.driver_laws.specs.SettingLaws.{SetupsAreGrantedExactly};
@@ -64,8 +68,8 @@ pub fn images_come_by_setups()
 
 /// A SETUP makes an image, whose log opens at the least vacant place, exactly where it is well-formed and no image of its
 /// endpoint, session and stream is there, a subscription that it fits reads it by the policy in force, there is room, and a
-/// place is vacant; else it is dropped by the first of these that fails, and nothing changes but the moment. Where the policy
-/// denies it to each, the verdict is that for the one of the lowest number.
+/// place is vacant; else it is dropped by the first of these that fails, and nothing changes but the moment, with what that
+/// takes and brings. Where the policy denies it to each, the verdict is that for the one of the lowest number.
 pub fn setups_are_granted_exactly()
     ensures { SetupsAreGrantedExactly }
 {}
@@ -173,7 +177,8 @@ pub fn destinations_are_of_live_publications()
 {}
 
 /// A client's request that a subscription go takes away the one of that number that is the client's own, and the images
-/// that none reads any more, and nothing else; where it has none, nothing goes, and the subscription is unknown.
+/// that none reads any more, and nothing else; where it has none, nothing goes but what the moment takes, and the subscription is
+/// unknown.
 pub fn subscriptions_are_removed_exactly()
     ensures { SubscriptionsAreRemovedExactly }
 {}
@@ -185,7 +190,7 @@ pub fn subscriptions_are_removed_only()
 {}
 
 /// A client's request that its registration with a publication go takes away the one of that number that is the client's
-/// own, and nothing else; the log lingers from then on where nobody else is registered with it. Where the client has none,
+/// own, and nothing else but what the moment takes; the log lingers from then on where nobody else is registered with it. Where the client has none,
 /// nothing goes, and the publication is unknown.
 pub fn registrations_are_removed_exactly()
     ensures { RegistrationsAreRemovedExactly }
@@ -196,8 +201,8 @@ pub fn registrations_are_removed_only()
     ensures { RegistrationsAreRemovedOnly }
 {}
 
-/// A client's request that a counter go takes away the one of that number that is the client's own, and nothing else; where
-/// it has none, nothing goes, and the counter is unknown.
+/// A client's request that a counter go takes away the one of that number that is the client's own, and nothing else but what
+/// the moment takes; where it has none, nothing goes, and the counter is unknown.
 pub fn counters_are_removed_exactly()
     ensures { CountersAreRemovedExactly }
 {}
@@ -207,8 +212,8 @@ pub fn counters_are_removed_only()
     ensures { CountersAreRemovedOnly }
 {}
 
-/// A client's request that a counter have a value sets the one of that number that is the client's own, and nothing else;
-/// where it has none, nothing is set, and the counter is unknown.
+/// A client's request that a counter have a value sets the one of that number that is the client's own, and nothing else but
+/// what the moment takes and brings changes; where it has none, nothing is set, and the counter is unknown.
 pub fn counters_are_set_exactly()
     ensures { CountersAreSetExactly }
 {}
@@ -219,7 +224,8 @@ pub fn counters_are_set_only()
 {}
 
 /// A client comes, under the next id, for the principal that the event names and at its moment, exactly where the driver was not
-/// stopped and there is room; else nobody comes, as the driver was stopped or is full, and all stays but the moment.
+/// stopped and there is room; else nobody comes, as the driver was stopped or is full, and all stays but the moment, with what that
+/// takes and brings.
 pub fn clients_come_exactly()
     ensures { ClientsComeExactly }
 {}
@@ -248,7 +254,7 @@ pub fn rows_go_with_their_client()
 
 /// In a registry that was opened with sound settings a log closes, and is reported, at a tick at which it has lingered for
 /// longer than it may, or which learns that the image is silent, where the driver is ended by a request that the policy in
-/// force allowed, and where the event leaves no subscription that reads the image.
+/// force allowed, and where the event and its moment leave no subscription that reads the image.
 pub fn logs_close_exactly()
     ensures { LogsCloseExactly }
 {}
@@ -264,21 +270,65 @@ pub fn closed_logs_were_there()
 {}
 
 /// A reload puts its policy in force under the next number and leaves all lists as they are, but for the images that none
-/// reads any more, which close: the pairs go that the old policy allowed and the new one does not, and those come that it
-/// gains. A reload that is refused closes nothing.
+/// reads any more, which close: the pairs go that the old policy allowed at the moment before and the new one does not at the
+/// moment of the reload, and those come that it gains. A reload that is refused closes nothing but what the moment closes.
 pub fn reloads_close_exactly()
     ensures { ReloadsCloseExactly }
 {}
 
-/// The policy in force is that of the newest reload that was not refused, or the first one; nothing else changes it.
+/// The policy in force, as its text has it, is that of the newest reload that was not refused, or the first one; nothing else
+/// changes it.
 pub fn newest_policy_is_in_force()
     ensures { NewestPolicyIsInForce }
 {}
 
-/// An event that grants nothing and closes no log sets the moment of the registry and of the client that was heard of,
-/// and no more.
+/// An event that grants nothing and closes no log sets the moment of the registry, to which its policy is fitted, and that of the
+/// client that was heard of, and no more.
 pub fn refusals_change_no_more_than_moments()
     ensures { RefusalsChangeNoMoreThanMoments }
+{}
+
+/// An event that is answered that it is refused, or whose first reply says so, takes and brings the pairs that the moment does, and
+/// the images close that none reads then; beside the event's own answer only these are reported. So it is where an event only moves
+/// time.
+pub fn refused_events_take_only_what_the_moment_takes()
+    ensures { RefusedEventsTakeOnlyWhatTheMomentTakes }
+{}
+
+/// In every registry the policy is what the text of the one in force makes of it at the greatest moment of the events so far, and
+/// what it becomes later is what that text says.
+pub fn policies_stand_at_their_moment()
+    ensures { PoliciesStandAtTheirMoment }
+{}
+
+/// An event that comes before the next bound of a rule in force comes to the registry as it is: up to the bound, and not at it,
+/// no moment takes or brings a pair.
+pub fn registries_stay_between_bounds()
+    ensures { RegistriesStayBetweenBounds }
+{}
+
+/// A verdict on an offer or a poll that a cache keeps is the policy's from the moment at which it was stored up to the next bound of a
+/// rule after that, and not at it, as long as the policy is in force; what events come does not matter.
+pub fn cached_verdicts_are_right_until_the_next_bound()
+    ensures { CachedVerdictsAreRightUntilTheNextBound }
+{}
+
+/// A moment takes exactly the pairs that the policy allowed at the moment before and refuses at it, and brings exactly those that it
+/// allows at it and refused before, as a reload does, and under the number that the policy has.
+pub fn moments_take_and_give_exactly()
+    ensures { MomentsTakeAndGiveExactly }
+{}
+
+/// The limit of pairs counts exactly those of a log and a subscription that fit and of which the policy in force allows the image to
+/// the subscription's client at the registry's moment or at a later one.
+pub fn limits_count_what_is_ever_allowed()
+    ensures { LimitsCountWhatIsEverAllowed }
+{}
+
+/// However many pairs a moment brings, they are within the limit, as are those of all later moments, since what comes is asked
+/// whether it is ever allowed: so a tick has no answer but that time has gone on.
+pub fn ticks_are_never_full()
+    ensures { TicksAreNeverFull }
 {}
 
 /// In a registry that was opened with sound settings, all logs have sound sizes, are numbered in the order in which they
@@ -332,14 +382,14 @@ pub fn numbers_are_never_drawn_again()
 {}
 
 /// In every registry there are at most 64 clients, 256 publications and 512 images, 1,024 registrations with publications,
-/// 512 subscriptions, 1,024 counters and 4,096 pairs.
+/// 512 subscriptions, 1,024 counters and 4,096 pairs, those counted that the policy allows at a later moment.
 pub fn limits_are_kept()
     ensures { LimitsAreKept }
 {}
 
 /// And none of these limits is kept too soon: there is room for one more, or for a policy, where the lists concerned are
 /// below theirs (for a publication those of registrations and of publications, for a destination that of its publication),
-/// the pairs would stay within theirs, and a number is left.
+/// the pairs would stay within theirs at this moment and later, and a number is left.
 pub fn room_is_left_below_the_limits()
     ensures { RoomIsLeftBelowTheLimits }
 {}

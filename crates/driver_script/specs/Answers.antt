@@ -3,7 +3,7 @@ use Rattle.std.specs.Prelude.{ℕ, ◌+◌, ◌/◌, ◌%◌, ℤ, List, [], ◌
 use Rattle.std.specs.Fmt.{decimal, signed_decimal}
 use Rattle.std.specs.List.{flat_map}
 use Rattle.driver_script.specs.declared.answers.AnswerLine.{AnswerLine}
-use Rattle.driver_script.specs.declared.answers.AnswerLine.TheVariants.{Attached, Full, Stopped, PolicyInForce, PolicyFull, Setup, Dropped, Beat, Status, Elicit, Sent, Withheld, PolicyRefused, Reply, Offer, Poll, Fragment, Gone, List as Lists, Counter, Value, Denied, UnknownCounter, WrongClient, Audit, Decided, NoMemory, BadLine}
+use Rattle.driver_script.specs.declared.answers.AnswerLine.TheVariants.{Attached, Full, Stopped, PolicyInForce, PolicyFull, Setup, Unimaged, Dropped, Beat, Status, Elicit, Sent, Withheld, PolicyRefused, Reply, Offer, Poll, Fragment, Gone, List as Lists, Counter, Value, Denied, UnknownCounter, WrongClient, Audit, Decided, NoMemory, BadLine}
 use Rattle.channel_uri.specs.Address.{address_text}
 use Rattle.channel_uri.specs.declared.address.Address.{Address}
 use Rattle.driver_core.specs.declared.setup_fault.SetupFault.{SetupFault}
@@ -45,6 +45,10 @@ reply_text client bytes = codes "reply " ++ (decimal client ++ (codes " " ++ (he
 -- a word and a number, and what stands between them
 abbrev pub numbered_line : List ℕ → ℕ → List ℕ
 numbered_line word number = word ++ (decimal number ++ codes "\n")
+
+-- a client that is attached
+abbrev pub attached_line : ℕ → List ℕ
+attached_line client = numbered_line (codes "attached ") client
 
 -- a policy that is in force
 abbrev pub policy_line : ℕ → List ℕ
@@ -116,7 +120,6 @@ astray_word astray.Stranger = codes "stranger"
 abbrev pub drop_text : Cause → List ℕ
 drop_text (cause.Unread fault) = unread_text fault
 drop_text (cause.Astray why) = astray_word why
-drop_text (cause.SetUp fault) = cause_text fault
 drop_text (cause.Denied verdict) = verdict_text verdict
 drop_text cause.Full = codes "full"
 drop_text cause.Empty = codes "empty"
@@ -124,6 +127,11 @@ drop_text cause.OutOfWindow = codes "out-of-window"
 drop_text cause.Lingering = codes "lingering"
 drop_text cause.Busy = codes "busy"
 
+-- a SETUP that is dropped
+abbrev pub unimaged_line : SetupFault → List ℕ
+unimaged_line why = codes "dropped " ++ (cause_text why ++ codes "\n")
+
+-- a datagram that is dropped
 abbrev pub dropped_line : Cause → List ℕ
 dropped_line why = codes "dropped " ++ (drop_text why ++ codes "\n")
 
@@ -180,12 +188,13 @@ bad_line number = codes "line " ++ (decimal number ++ codes ": bad line\n")
 
 -- each line with its line feed
 unfoldable pub line_text : AnswerLine → List ℕ
-line_text (Attached client) = numbered_line (codes "attached ") client
+line_text (Attached client) = attached_line client
 line_text Full = codes "full\n"
 line_text Stopped = codes "stopped\n"
 line_text (PolicyInForce epoch) = policy_line epoch
 line_text PolicyFull = codes "policy refused: full\n"
 line_text (Setup source) = setup_line source
+line_text (Unimaged why) = unimaged_line why
 line_text (Dropped why) = dropped_line why
 line_text Beat = codes "beat\n"
 line_text (Status position) = status_line position

@@ -3,7 +3,6 @@ use Rattle.std.specs.Prelude.{◌≡◌, ℕ, Bool, false, true, List, [], ◌�
 use Rattle.std.specs.Fmt.{decimal}
 use Rattle.std.specs.List.{flat_map, list_any}
 use Rattle.driver_steps.specs.declared.answer.Answer.{Answer}
-use Rattle.driver_steps.specs.declared.cause.Cause.TheVariants.{SetUp}
 use Rattle.driver_steps.specs.declared.answer.Answer.TheVariants.{NoMemory, Attached, Full, Stopped, PolicyInForce, PolicyFull, Imaged, Unimaged, Received, Heard, Limited, Elicited, Idle, Sent, Resent, Reported, Dropped, Replies, Offered, Polled, Gone, Counters, Value, Denied, UnknownCounter, WrongClient, BadStep}
 use Rattle.driver_core.specs.declared.event.Event.TheVariants.{Reload}
 use Rattle.driver_core.specs.declared.listing.ListedCounter.{ListedCounter}
@@ -32,7 +31,7 @@ use Rattle.script_lines.specs.declared.statements.Said.{Said}
 use Rattle.driver_script.specs.declared.script.Preface.{Preface}
 use Rattle.script_lines.specs.declared.statements.Said.TheVariants.{Principal, Peer as PeerGiven, Set, Policy, Does, Audit, Bad}
 use Rattle.script_lines.specs.declared.statements.Statement.{Statement}
-use Rattle.driver_script.specs.Answers.{audit_line, counter_line, data_line, decision_line, denial_line, dropped_line, fragment_line, list_line, offer_line, policy_line, poll_line, refusal_line, reply_text, sent_line, setup_line, status_line, value_line, withheld_line}
+use Rattle.driver_script.specs.Answers.{attached_line, audit_line, counter_line, data_line, decision_line, denial_line, dropped_line, fragment_line, list_line, offer_line, policy_line, poll_line, refusal_line, reply_text, sent_line, setup_line, status_line, unimaged_line, value_line, withheld_line}
 use Rattle.script_lines.specs.Settings.{Chosen, no_choices, choose}
 
 -- ---- the head of a script: its principals, its peers, its settings and its policy
@@ -196,13 +195,13 @@ outlets_text bytes outlets = flat_map (outlet_text bytes) outlets
 -- an answer has its line, and a line for each reply, fragment, counter, datagram or destination
 unfoldable pub answer_text : Answer → List ℕ
 answer_text NoMemory = codes "no memory\n"
-answer_text (Attached client messages) = (codes "attached " ++ (decimal client ++ codes "\n")) ++ flat_map message_text messages
+answer_text (Attached client messages) = attached_line client ++ flat_map message_text messages
 answer_text (Full messages) = codes "full\n" ++ flat_map message_text messages
 answer_text (Stopped messages) = codes "stopped\n" ++ flat_map message_text messages
 answer_text (PolicyInForce epoch messages) = policy_line epoch ++ flat_map message_text messages
 answer_text (PolicyFull messages) = codes "policy refused: full\n" ++ flat_map message_text messages
 answer_text (Imaged source messages) = setup_line source ++ flat_map message_text messages
-answer_text (Unimaged why messages) = dropped_line (SetUp why) ++ flat_map message_text messages
+answer_text (Unimaged why messages) = unimaged_line why ++ flat_map message_text messages
 answer_text (Received words) = data_line words
 answer_text Heard = codes "beat\n"
 answer_text (Limited position) = status_line position

@@ -179,7 +179,6 @@ impl fmt::Display for Drop {
         match self.0 {
             Cause::Unread(fault) => fault.fmt(f),
             Cause::Astray(why) => AstrayWord(why).fmt(f),
-            Cause::SetUp(fault) => SetupCause(fault).fmt(f),
             Cause::Denied(verdict) => verdict.fmt(f),
             Cause::Full => f.write_str("full"),
             Cause::Empty => f.write_str("empty"),
@@ -221,6 +220,21 @@ impl fmt::Display for DroppedLine {
 
     fn fmt<W: fmt::Write>(&self, f: &mut fmt::Formatter<W>) -> fmt::Result {
         let why = Drop(self.0);
+        writeln!(f, "dropped {why}")
+    }
+}
+
+/// The line of a SETUP that makes no image, and is dropped.
+#[derive(Clone, Copy)]
+struct UnimagedLine(SetupFault);
+
+impl fmt::Display for UnimagedLine {
+    ghost use Rattle.driver_script.specs.Answers.{unimaged_line};
+
+    ghost output = { λ line. Some (unimaged_line line.0) };
+
+    fn fmt<W: fmt::Write>(&self, f: &mut fmt::Formatter<W>) -> fmt::Result {
+        let why = SetupCause(self.0);
         writeln!(f, "dropped {why}")
     }
 }
@@ -394,6 +408,8 @@ pub enum AnswerLine<'a> {
     PolicyFull,
     /// An image comes, by its source number.
     Setup(u64),
+    /// A SETUP makes no image, and is dropped.
+    Unimaged(SetupFault),
     /// A datagram is dropped.
     Dropped(Cause),
     /// A heartbeat came to its image.
@@ -476,6 +492,7 @@ impl fmt::Display for AnswerLine<'_> {
             AnswerLine::PolicyInForce(epoch) => Numbered("policy ", epoch).fmt(f),
             AnswerLine::PolicyFull => f.write_str("policy refused: full\n"),
             AnswerLine::Setup(source) => Numbered("setup ", source).fmt(f),
+            AnswerLine::Unimaged(why) => UnimagedLine(why).fmt(f),
             AnswerLine::Dropped(why) => DroppedLine(why).fmt(f),
             AnswerLine::Beat => f.write_str("beat\n"),
             AnswerLine::Status(position) => Numbered("status ", position).fmt(f),

@@ -2,7 +2,7 @@ ghost use Rattle.driver_core.specs.Replies.{layout_of};
 ghost use Rattle.command_codec.specs.Reply.{reply_bytes};
 ghost use Rattle.audit_ring.specs.Audit.{Kept};
 ghost use Rattle.driver_world.specs.Audits.{IsAuditOf, kept_for};
-ghost use Rattle.driver_script.specs.Answers.{data_line, decision_line, line_text, list_line, policy_line, poll_line, sent_line, setup_line, withheld_line, word_behind};
+ghost use Rattle.driver_script.specs.Answers.{data_line, decision_line, line_text, list_line, poll_line, sent_line, withheld_line, word_behind};
 ghost use Rattle.driver_script.specs.Ends.{OfAnswering, OfRunning};
 ghost use Rattle.driver_script.specs.Output.{AppendsFront};
 ghost use Rattle.driver_script.specs.Script.{audit_text, message_text, counter_text, fragment_text, outlet_text, outlets_text, sent_text, answer_text, is_bad_step, told_text, ended_text, is_peer_at, may_peer, no_preface};
@@ -28,7 +28,7 @@ use crate::output::write_whole;
 use audit_ring::Audit;
 use byte_strings::{Bytes, Items, Text};
 use driver_core::{Address, Event, ListedCounter, Message, Outlet, Peer};
-use driver_world::{Actor, Answer, Cause, Fragment, FragmentCopies, Insert, Reading, Step, World};
+use driver_world::{Actor, Answer, Fragment, FragmentCopies, Insert, Reading, Step, World};
 use policy_text::{Names, PolicyFault};
 use script_lines::settings::Choices;
 use script_lines::statements::{LIMIT, Said, Statement, Statements};
@@ -135,7 +135,7 @@ fn text_of_replied(
     line: AnswerLine<'_>,
     replies: &[Message],
 ) -> Result<String, AllocError>
-    ensures { IfOk result (λ text. string_bytes text ≡ line_text line ++ flat_map message_text replies.now) }
+    ensures { IfOk result (λ text. string_bytes text ≡ line_text line.entry ++ flat_map message_text replies.now) }
 {
     let mut text = text_of_line(alloc, line)?;
     push_messages(&mut text, alloc, replies)?;
@@ -250,7 +250,7 @@ fn text_of(alloc: Global, answer: &Answer) -> Result<String, AllocError>
 {
     match answer {
         Answer::NoMemory => text_of_line(alloc, AnswerLine::NoMemory),
-        Answer::Attached(client, replies) => {
+        Answer::Attached { client, replies } => {
             text_of_replied(alloc, AnswerLine::Attached(*client), replies.as_slice())
         }
         Answer::Full(replies) => text_of_replied(alloc, AnswerLine::Full, replies.as_slice()),
@@ -265,8 +265,7 @@ fn text_of(alloc: Global, answer: &Answer) -> Result<String, AllocError>
             text_of_replied(alloc, AnswerLine::Setup(*source), replies.as_slice())
         }
         Answer::Unimaged { why, replies } => {
-            let cause = Cause::SetUp(*why);
-            text_of_replied(alloc, AnswerLine::Dropped(cause), replies.as_slice())
+            text_of_replied(alloc, AnswerLine::Unimaged(*why), replies.as_slice())
         }
         Answer::Received(words) => text_of_data(alloc, words.as_slice()),
         Answer::Heard => text_of_line(alloc, AnswerLine::Beat),

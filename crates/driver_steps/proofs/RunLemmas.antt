@@ -10,7 +10,7 @@ use Rattle.driver_core.specs.declared.outcome.Response.TheVariants as response
 use Rattle.driver_core.specs.declared.replies.Message.{Message}
 use Rattle.driver_core.specs.State.{State}
 use Rattle.driver_steps.specs.declared.answer.Answer.{Answer}
-use Rattle.driver_steps.specs.declared.answer.Answer.TheVariants.{NoMemory, Attached, Full, Stopped, PolicyInForce, PolicyFull, Imaged, Dropped, Replies, Offered as OfferedAs, Polled, Gone as IsGone, Counters, Value as ValueIs, Denied, UnknownCounter, WrongClient, BadStep, Received, Heard, Limited, Elicited, Idle, Sent as SentTo, Resent, Reported}
+use Rattle.driver_steps.specs.declared.answer.Answer.TheVariants.{NoMemory, Attached, Full, Stopped, PolicyInForce, PolicyFull, Imaged, Unimaged, Dropped, Replies, Offered as OfferedAs, Polled, Gone as IsGone, Counters, Value as ValueIs, Denied, UnknownCounter, WrongClient, BadStep, Received, Heard, Limited, Elicited, Idle, Sent as SentTo, Resent, Reported}
 use Rattle.driver_steps.specs.declared.step.Step.{Step}
 use Rattle.driver_steps.specs.declared.step.Step.TheVariants.{Conductor}
 use Rattle.channel_uri.specs.declared.address.Address.{Address}
@@ -42,12 +42,13 @@ use Rattle.term_log.specs.Whole.{is_connected}
 
 abbrev pub IsTold : Answer → Type 0
 IsTold NoMemory = ⊥
-IsTold (Attached number) = Unit {0}
-IsTold Full = Unit {0}
-IsTold Stopped = Unit {0}
+IsTold (Attached number messages) = Unit {0}
+IsTold (Full messages) = Unit {0}
+IsTold (Stopped messages) = Unit {0}
 IsTold (PolicyInForce epoch messages) = Unit {0}
-IsTold PolicyFull = Unit {0}
+IsTold (PolicyFull messages) = Unit {0}
 IsTold (Imaged number messages) = Unit {0}
+IsTold (Unimaged why messages) = Unit {0}
 IsTold (Received words) = Unit {0}
 IsTold Heard = Unit {0}
 IsTold (Limited position) = Unit {0}
@@ -71,12 +72,13 @@ IsTold BadStep = Unit {0}
 -- a step that is told such an answer tells what was decided
 pub told_unless : (answer : Answer) (decision : Option Decision) → IsTold answer → decided_unless answer decision ≡ decision
 told_unless NoMemory decision is_told = absurd is_told
-told_unless (Attached number) decision is_told = refl
-told_unless Full decision is_told = refl
-told_unless Stopped decision is_told = refl
+told_unless (Attached number messages) decision is_told = refl
+told_unless (Full messages) decision is_told = refl
+told_unless (Stopped messages) decision is_told = refl
 told_unless (PolicyInForce epoch messages) decision is_told = refl
-told_unless PolicyFull decision is_told = refl
+told_unless (PolicyFull messages) decision is_told = refl
 told_unless (Imaged number messages) decision is_told = refl
+told_unless (Unimaged why messages) decision is_told = refl
 told_unless (Received words) decision is_told = refl
 told_unless Heard decision is_told = refl
 told_unless (Limited position) decision is_told = refl
@@ -101,12 +103,13 @@ told_unless BadStep decision is_told = refl
 told : (e : RunEnd) (what : Moved) (answer : Answer) → IsTold answer → answer ≡ what.answer →
     IsAnswerOf what answer × (after_by e what answer ≡ what.after)
 told e what NoMemory is_told is = absurd is_told
-told e what (Attached number) is_told is = (is, refl)
-told e what Full is_told is = (is, refl)
-told e what Stopped is_told is = (is, refl)
+told e what (Attached number messages) is_told is = (is, refl)
+told e what (Full messages) is_told is = (is, refl)
+told e what (Stopped messages) is_told is = (is, refl)
 told e what (PolicyInForce epoch messages) is_told is = (is, refl)
-told e what PolicyFull is_told is = (is, refl)
+told e what (PolicyFull messages) is_told is = (is, refl)
 told e what (Imaged number messages) is_told is = (is, refl)
+told e what (Unimaged why messages) is_told is = (is, refl)
 told e what (Received words) is_told is = (is, refl)
 told e what Heard is_told is = (is, refl)
 told e what (Limited position) is_told is = (is, refl)
@@ -130,12 +133,13 @@ told e what BadStep is_told is = (is, refl)
 -- such an answer asks for no memory
 told_has : (takes : Bool) (answer : Answer) → IsTold answer → HasMemoryBy takes answer
 told_has takes NoMemory is_told = absurd is_told
-told_has takes (Attached number) is_told = tt
-told_has takes Full is_told = tt
-told_has takes Stopped is_told = tt
+told_has takes (Attached number messages) is_told = tt
+told_has takes (Full messages) is_told = tt
+told_has takes (Stopped messages) is_told = tt
 told_has takes (PolicyInForce epoch messages) is_told = tt
-told_has takes PolicyFull is_told = tt
+told_has takes (PolicyFull messages) is_told = tt
 told_has takes (Imaged number messages) is_told = tt
+told_has takes (Unimaged why messages) is_told = tt
 told_has takes (Received words) is_told = tt
 told_has takes Heard is_told = tt
 told_has takes (Limited position) is_told = tt

@@ -13,6 +13,7 @@ use Rattle.driver_core.specs.declared.settings.Settings.{Settings}
 use Rattle.driver_core.specs.Conduct.{outcome_of, state_of}
 use Rattle.driver_core.specs.Listing.{list, value}
 use Rattle.driver_core.specs.LogRequests.{offering_of, registration_at, has_pair}
+use Rattle.driver_core.specs.Looking.{IsAtItsMoment}
 use Rattle.driver_core.specs.Pairs.{pairs_of}
 use Rattle.driver_core.specs.Renewal.{source_at, subscription_at}
 use Rattle.driver_core.specs.Soundness.{AreSettings}
@@ -124,6 +125,10 @@ RunsTakeEvents =
     (settings : Settings) (policy : Rules) (peers : List Peer) (readings : List Reading) (answers : List Answer) →
     TakesEvents (end_of (opening_end settings policy peers) readings answers)
     (registry_of settings policy peers readings answers)
+
+-- the policy in force is what its text makes of it at the registry's moment, and so is what it becomes later
+abbrev pub PoliciesStandAtTheirMoment : Type 0
+PoliciesStandAtTheirMoment = AtEachEnd (λ e. IsAtItsMoment e.registry)
 
 -- ---- the logs of a run
 

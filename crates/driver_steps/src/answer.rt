@@ -37,11 +37,17 @@ pub enum Answer {
     /// neither gone nor denied, a datagram of data that came to its image, a NAK by which frames are sent again and a turn of
     /// the sender or the receiver in which something is due are answered so.
     NoMemory,
-    /// A client is attached, under this id. The replies are those on images that the moment takes or brings, here and below.
-    Attached(u64, Items<Message>),
-    /// A limit of the driver would be broken.
+    /// A client is attached.
+    Attached {
+        /// Its id.
+        client: u64,
+        /// The replies on images that the moment takes and brings, in their order.
+        replies: Items<Message>,
+    },
+    /// A limit of the driver would be broken. With the replies on images that the moment takes and brings, in their order.
     Full(Items<Message>),
-    /// The driver was stopped, and no client comes to it any more.
+    /// The driver was stopped, and no client comes to it any more. With the replies on images that the moment takes and
+    /// brings, in their order.
     Stopped(Items<Message>),
     /// The policy is in force, under this number.
     PolicyInForce {
@@ -49,13 +55,14 @@ pub enum Answer {
         /// The replies that it gives, in their order.
         replies: Items<Message>,
     },
-    /// A limit of the driver would be broken under the policy, which is not in force.
+    /// A limit of the driver would be broken under the policy, which is not in force. With the replies on images that the
+    /// moment takes and brings, in their order.
     PolicyFull(Items<Message>),
-    /// A SETUP makes no image.
+    /// A SETUP makes no image, and is dropped.
     Unimaged {
         /// Why.
         why: SetupFault,
-        /// The replies that come with it, in their order.
+        /// The replies on images that the moment takes and brings, in their order.
         replies: Items<Message>,
     },
     /// An image comes.
@@ -130,7 +137,10 @@ impl Answer {
     {
         match outcome.response {
             Response::Nothing => Answer::Replies(outcome.replies),
-            Response::Attached(number) => Answer::Attached(number, outcome.replies),
+            Response::Attached(client) => Answer::Attached {
+                client,
+                replies: outcome.replies,
+            },
             Response::Full => Answer::Full(outcome.replies),
             Response::Stopped => Answer::Stopped(outcome.replies),
             Response::PolicyInForce(epoch) => Answer::PolicyInForce {

@@ -1,4 +1,4 @@
-use driver_core::{Astray, SetupFault};
+use driver_core::Astray;
 use frame_codec::BadPacket;
 use policy_core::Verdict;
 
@@ -9,8 +9,6 @@ pub enum Cause {
     Unread(BadPacket),
     /// It is for no log, or from a stranger.
     Astray(Astray),
-    /// Its SETUP makes no image.
-    SetUp(SetupFault),
     /// The policy does not let who asks by the NAK have frames again, or who sent the status message become a destination, by
     /// this verdict.
     Denied(Verdict),

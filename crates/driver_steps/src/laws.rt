@@ -4,8 +4,10 @@
 ghost use Rattle.driver_steps.specs.CarryingLaws.{PayloadsComeFromTheirPublisher};
 ghost use Rattle.driver_steps.specs.JoinLaws.{AddressesAreLearntExactly};
 ghost use Rattle.driver_steps.specs.ResendLaws.{ResendsComeFromTheLiveLog};
-ghost use Rattle.driver_steps.specs.Laws.{BytesComeFromTheLiveLog, LogsFollowTheRegistry, OffersAreGrantedExactly, PollsAreGrantedExactly, RunsTakeEvents};
+ghost use Rattle.driver_steps.specs.Laws.{BytesComeFromTheLiveLog, LogsFollowTheRegistry, OffersAreGrantedExactly, PoliciesStandAtTheirMoment, PollsAreGrantedExactly, RunsTakeEvents};
 ghost use Rattle.driver_steps.specs.SendLaws.{SendsAreGrantedExactly};
+
+use driver_core::policies_are_of_their_moment;
 
 /// A run leaves the registry that its events leave, those apart that were refused memory: so what is said of all lists of
 /// events holds of runs. Whatever comes next is answered by that registry, unless it is refused memory: an event by its
@@ -13,6 +15,15 @@ ghost use Rattle.driver_steps.specs.SendLaws.{SendsAreGrantedExactly};
 pub fn runs_take_events()
     ensures { RunsTakeEvents }
 {}
+
+/// At the end of every run the policy in force is what its text makes of it at the registry's moment: each of its rules stands
+/// exactly where that moment is one of its own. So where the other laws speak of the registry's policy, they speak of that
+/// moment, whatever the moment of a step is.
+pub fn policies_stand_at_their_moment()
+    ensures { PoliciesStandAtTheirMoment }
+{
+    policies_are_of_their_moment();
+}
 
 /// At the end of every run each live publication and each image has its log and no other log is open, no two of them share
 /// a page, and exactly the subscriptions read it that the registry's lists and the policy in force say. So a reload closes exactly the

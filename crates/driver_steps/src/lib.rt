@@ -42,8 +42,9 @@ pub use driver::Driver;
 pub use image_log::Insert;
 pub use laws::{
     addresses_are_learnt_exactly, bytes_come_from_the_live_log, logs_follow_the_registry,
-    offers_are_granted_exactly, payloads_come_from_their_publisher, polls_are_granted_exactly,
-    resends_come_from_the_live_log, runs_take_events, sends_are_granted_exactly,
+    offers_are_granted_exactly, payloads_come_from_their_publisher, policies_stand_at_their_moment,
+    polls_are_granted_exactly, resends_come_from_the_live_log, runs_take_events,
+    sends_are_granted_exactly,
 };
 pub use offering::offer_step;
 pub use open_log::OpenLog;

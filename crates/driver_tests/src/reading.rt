@@ -290,27 +290,27 @@ static ANSWERS: [(AnswerLine<'static>, &str, bool); 49] = [
         true,
     ),
     (
-        AnswerLine::Dropped(Cause::SetUp(SetupFault::BadSetup)),
+        AnswerLine::Unimaged(SetupFault::BadSetup),
         "dropped bad-setup\n",
         true,
     ),
     (
-        AnswerLine::Dropped(Cause::SetUp(SetupFault::Exists)),
+        AnswerLine::Unimaged(SetupFault::Exists),
         "dropped exists\n",
         true,
     ),
     (
-        AnswerLine::Dropped(Cause::SetUp(SetupFault::NoSubscription)),
+        AnswerLine::Unimaged(SetupFault::NoSubscription),
         "dropped no-subscription\n",
         true,
     ),
     (
-        AnswerLine::Dropped(Cause::SetUp(SetupFault::Full)),
+        AnswerLine::Unimaged(SetupFault::Full),
         "dropped full\n",
         true,
     ),
     (
-        AnswerLine::Dropped(Cause::SetUp(SetupFault::NoRoom)),
+        AnswerLine::Unimaged(SetupFault::NoRoom),
         "dropped no-room\n",
         true,
     ),

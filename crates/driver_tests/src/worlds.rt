@@ -27,7 +27,7 @@ static ROWS: [Row; 4] = [
 /// The client that came by a step.
 fn comer(answer: Option<&Answer>) -> Option<u64> {
     match answer {
-        Some(Answer::Attached(client, _)) => Some(*client),
+        Some(Answer::Attached { client, .. }) => Some(*client),
         _ => None,
     }
 }

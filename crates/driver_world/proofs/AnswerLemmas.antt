@@ -1,7 +1,7 @@
 -- Want of memory, and any other answer.
 use Rattle.std.proofs.Common.{◌≡◌, List, Option, refl}
 use Rattle.driver_steps.specs.declared.answer.Answer.{Answer}
-use Rattle.driver_steps.specs.declared.answer.Answer.TheVariants.{NoMemory, Attached, Full, Stopped, PolicyInForce, PolicyFull, Imaged, Dropped, Replies, Offered as OfferedAs, Polled, Gone as IsGone, Counters, Value as ValueIs, Denied, UnknownCounter, WrongClient, BadStep, Received, Heard, Limited, Elicited, Idle, Sent as SentTo, Resent, Reported}
+use Rattle.driver_steps.specs.declared.answer.Answer.TheVariants.{NoMemory, Attached, Full, Stopped, PolicyInForce, PolicyFull, Imaged, Unimaged, Dropped, Replies, Offered as OfferedAs, Polled, Gone as IsGone, Counters, Value as ValueIs, Denied, UnknownCounter, WrongClient, BadStep, Received, Heard, Limited, Elicited, Idle, Sent as SentTo, Resent, Reported}
 use Rattle.driver_steps.specs.Decided.{decided_unless, denials_unless}
 use Rattle.driver_steps.specs.Ends.{RunEnd as DriverEnd, Moved as DriverMoved, IsAnswerOf as DriverAnswer, after_by as driver_after}
 use Rattle.driver_world.specs.declared.actor.Actor.{Actor}
@@ -26,18 +26,20 @@ pub record Other (answer : Answer) : Type 0 where
 -- what holds of want of memory and of any other answer holds of all
 pub by_answer : (P : Answer → Type 0) → P NoMemory → ((answer : Answer) → Other answer → P answer) → (answer : Answer) → P answer
 by_answer P none other NoMemory = none
-by_answer P none other (Attached number) =
-    other (Attached number) (record { unless = λ d. refl; denials = λ l. refl; drivers = λ w is. is; for_driver = λ w is. is; worlds = λ w is. is; for_world = λ w is. is; driver_left = λ e w. refl; left = λ e w. refl; seats = λ a t s. refl })
-by_answer P none other Full =
-    other Full (record { unless = λ d. refl; denials = λ l. refl; drivers = λ w is. is; for_driver = λ w is. is; worlds = λ w is. is; for_world = λ w is. is; driver_left = λ e w. refl; left = λ e w. refl; seats = λ a t s. refl })
-by_answer P none other Stopped =
-    other Stopped (record { unless = λ d. refl; denials = λ l. refl; drivers = λ w is. is; for_driver = λ w is. is; worlds = λ w is. is; for_world = λ w is. is; driver_left = λ e w. refl; left = λ e w. refl; seats = λ a t s. refl })
+by_answer P none other (Attached number messages) =
+    other (Attached number messages) (record { unless = λ d. refl; denials = λ l. refl; drivers = λ w is. is; for_driver = λ w is. is; worlds = λ w is. is; for_world = λ w is. is; driver_left = λ e w. refl; left = λ e w. refl; seats = λ a t s. refl })
+by_answer P none other (Full messages) =
+    other (Full messages) (record { unless = λ d. refl; denials = λ l. refl; drivers = λ w is. is; for_driver = λ w is. is; worlds = λ w is. is; for_world = λ w is. is; driver_left = λ e w. refl; left = λ e w. refl; seats = λ a t s. refl })
+by_answer P none other (Stopped messages) =
+    other (Stopped messages) (record { unless = λ d. refl; denials = λ l. refl; drivers = λ w is. is; for_driver = λ w is. is; worlds = λ w is. is; for_world = λ w is. is; driver_left = λ e w. refl; left = λ e w. refl; seats = λ a t s. refl })
 by_answer P none other (PolicyInForce epoch messages) =
     other (PolicyInForce epoch messages) (record { unless = λ d. refl; denials = λ l. refl; drivers = λ w is. is; for_driver = λ w is. is; worlds = λ w is. is; for_world = λ w is. is; driver_left = λ e w. refl; left = λ e w. refl; seats = λ a t s. refl })
-by_answer P none other PolicyFull =
-    other PolicyFull (record { unless = λ d. refl; denials = λ l. refl; drivers = λ w is. is; for_driver = λ w is. is; worlds = λ w is. is; for_world = λ w is. is; driver_left = λ e w. refl; left = λ e w. refl; seats = λ a t s. refl })
+by_answer P none other (PolicyFull messages) =
+    other (PolicyFull messages) (record { unless = λ d. refl; denials = λ l. refl; drivers = λ w is. is; for_driver = λ w is. is; worlds = λ w is. is; for_world = λ w is. is; driver_left = λ e w. refl; left = λ e w. refl; seats = λ a t s. refl })
 by_answer P none other (Imaged number messages) =
     other (Imaged number messages) (record { unless = λ d. refl; denials = λ l. refl; drivers = λ w is. is; for_driver = λ w is. is; worlds = λ w is. is; for_world = λ w is. is; driver_left = λ e w. refl; left = λ e w. refl; seats = λ a t s. refl })
+by_answer P none other (Unimaged why messages) =
+    other (Unimaged why messages) (record { unless = λ d. refl; denials = λ l. refl; drivers = λ w is. is; for_driver = λ w is. is; worlds = λ w is. is; for_world = λ w is. is; driver_left = λ e w. refl; left = λ e w. refl; seats = λ a t s. refl })
 by_answer P none other (Received words) =
     other (Received words) (record { unless = λ d. refl; denials = λ l. refl; drivers = λ w is. is; for_driver = λ w is. is; worlds = λ w is. is; for_world = λ w is. is; driver_left = λ e w. refl; left = λ e w. refl; seats = λ a t s. refl })
 by_answer P none other Heard =

@@ -31,7 +31,6 @@ fn serve<N: DriverNaming + Send + Sync + 'static, R: Machine, W: Wire + Drop + S
         rt.alloc(),
         parts,
         wire,
-        MachineClock::new(rt),
     );
     let Ok(mut driver) = started else {
         return Err("no driver");

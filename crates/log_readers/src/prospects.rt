@@ -99,7 +99,14 @@ fn prospects_among(
 {
     let mut pairs = 0;
     for subscription in subscriptions {
-        pairs += logs_ever_read(streams, clients, policy, moment, epoch, &subscription.wish());
+        pairs += logs_ever_read(
+            streams,
+            clients,
+            policy,
+            moment,
+            epoch,
+            &subscription.wish(),
+        );
     }
     pairs
 }
@@ -117,7 +124,14 @@ pub fn prospect_count(
     ensures exact { result ≡ length (prospects_of streams.now clients.now.rows (at policy.now moment) (coming policy.now moment) epoch) }
     ensures few { result ≤ 393216 }
 {
-    prospects_among(streams, clients, policy, moment, epoch, streams.subscriptions())
+    prospects_among(
+        streams,
+        clients,
+        policy,
+        moment,
+        epoch,
+        streams.subscriptions(),
+    )
 }
 
 /// How many there would be with the subscription. It takes no memory.

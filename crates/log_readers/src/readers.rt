@@ -225,7 +225,13 @@ impl Readers {
     /// The readers of all logs, from the beginning. The policy, which goes by the number `epoch`, is asked once for each
     /// subscription.
     #[tactic(auto, unfolding(crate::specs::Readers::all_readers))]
-    pub fn ask_again(&mut self, streams: &Streams, clients: &Clients, policy: &Standing<'_>, epoch: u64)
+    pub fn ask_again(
+        &mut self,
+        streams: &Streams,
+        clients: &Clients,
+        policy: &Standing<'_>,
+        epoch: u64,
+    )
         ensures { self.new ≡ all_readers streams.now clients.now.rows policy.now epoch }
     {
         self.ask(

@@ -5,6 +5,7 @@
 //! of a ledger: how many messages its logs have taken, that which is open and those that were closed in it.
 #![tactic(auto)]
 
+mod at_end;
 mod log_slot;
 mod memory;
 mod naming;
@@ -14,6 +15,7 @@ mod settling;
 mod slot;
 mod totals;
 
+pub use at_end::AtEnd;
 pub use log_slot::LogSlot;
 pub use memory::{ImageMemory, LogMemory, memory_for};
 pub use naming::{Naming, OfClients, OfSlots};

@@ -1,5 +1,6 @@
-ghost use Rattle.std.specs.Prelude.{◌≡◌, ◌+◌, ◌-◌, ◌↔◌, ◌≢◌, ◌^◌, ◌<◌, ℕ, IsTrue, MatchBool};
+ghost use Rattle.std.specs.Prelude.{◌≡◌, ◌+◌, ◌-◌, ◌↔◌, ◌≢◌, ◌^◌, ◌<◌, ℕ, IsSome, IsTrue, MatchBool};
 
+use crate::at_end::AtEnd;
 use crate::naming::{Naming, OfClients, OfSlots};
 use std::marker::Model;
 use std::sync::ledger::{Book, Share};
@@ -115,18 +116,18 @@ impl<N: Naming> Counts<N> for Totals<N> {
 pub struct Late<'a, N: Naming, R: Wait> {
     pub rt: &'a R,
     pub totals: &'a Mutex<Totals<N>>,
-    /// What the total was when a message was not counted, and 0 before.
-    pub end: u64,
+    /// That the total was at its greatest value when a message was not counted; none before.
+    pub end: Option<AtEnd<N>>,
 }
 
 impl<'a, N: Naming, R: Wait> Counts<N> for Late<'a, N, R> {
-    ghost is_full = { λ late. late.end ≡ 2 ^ 64 - 1 };
+    ghost is_full = { λ late. IsSome late.end };
 
     fn one_more(&mut self, client: &mut Share<OfClients<N>>, slot: &mut Share<OfSlots<N>>) -> bool {
         let mut totals = self.totals.lock(self.rt);
         let counted = totals.add(client, slot);
         if !counted {
-            self.end = totals.count();
+            self.end = AtEnd::of(&*totals);
         }
         counted
     }

@@ -1,5 +1,5 @@
 -- What a client is to its owner, and what its calls change of it. Own rules.
-use Rattle.std.specs.Prelude.{◌≡◌, ◌≢◌, ℕ, ◌+◌, ◌-◌, ◌^◌, ◌≤◌, ◌⊎◌, min, All, length, List, [], ◌∷◌, ◌++◌, Option, Some, None, Result, Ok, Err}
+use Rattle.std.specs.Prelude.{◌≡◌, ◌≢◌, ℕ, Bool, ◌+◌, ◌-◌, ◌^◌, ◌≤◌, ◌⊎◌, min, All, length, List, [], ◌∷◌, ◌++◌, Option, Some, None, Result, Ok, Err}
 use mathlib.Core.List.{IsPrefix}
 use Rattle.command_codec.specs.Command.{command_bytes}
 use Rattle.command_codec.specs.declared.command.Body.{Body}
@@ -17,7 +17,7 @@ use Rattle.published_registry.specs.Histories.{History, IsContinuedBy, Known}
 
 -- the id by which the driver knows it; the correlation id of its last command; the greatest moment of its commands and offers;
 -- the history that it saw or learned of; what it pushed; the mails that it took out of its ring, and those that it saw there;
--- and how many of its messages were counted
+-- how many of its messages were counted, and whether the driver's total was at its greatest value when one was not
 pub record Attached : Type 0 where
   pub number : ℕ
   pub correlation : ℕ
@@ -27,6 +27,7 @@ pub record Attached : Type 0 where
   pub taken : List Posted
   pub waiting : List Posted
   pub counted : ℕ
+  pub ended : Bool
 
 -- what a client has of a driver: the history that its pass saw or learned of, and what was pushed by it
 pub record Seated : Type 0 where
@@ -64,6 +65,21 @@ MayRefuse queue pushes.NoMemory = Unit {0}
 abbrev pub Commands : Attached → Attached → Body → Result ℕ PushFault → Type 0
 Commands old new body (Ok correlation) = Pushes old new body correlation
 Commands old new body (Err fault) = (new ≡ old) × MayRefuse old.queue fault
+
+-- bytes are pushed as a command over the client's handle, at a moment not before its last one; nothing else changes
+pub record Hands (old new : Attached) (bytes : List ℕ) : Type 0 where
+  pub later : old.moment ≤ new.moment
+  pub new_is :
+      new
+      ≡ record old {
+        moment = new.moment;
+        queue = record old.queue { sent = old.queue.sent ++ Command new.moment old.number bytes ∷ [] };
+      }
+
+-- they are; or they are refused, and nothing changes
+abbrev pub HandsOn : {T : Type 0} → Attached → Attached → List ℕ → Result T PushFault → Type 0
+HandsOn old new bytes (Ok _) = Hands old new bytes
+HandsOn old new bytes (Err fault) = (new ≡ old) × MayRefuse old.queue fault
 
 -- ---- a look
 

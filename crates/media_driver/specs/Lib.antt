@@ -1,5 +1,6 @@
 pub mod Attaching
 pub mod Clients
+pub mod Clocks
 pub mod Faults
 pub mod Parts
 pub mod Reloading

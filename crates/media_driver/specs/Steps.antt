@@ -1,7 +1,7 @@
 -- What a client's offer and poll are answered: the answer of a step on one log, by the registry that the client saw last. Of an
 -- answer that the log is closed, that the subscription does not read it, or that there was no look, nothing is said: what a
 -- lock guards is known to whoever holds it, and a slot with no log answers so. Own rules.
-use Rattle.std.specs.Prelude.{◌≡◌, ℕ, ◌+◌, ◌⊎◌, List, Option, Some, None, Result, Ok, Err, IfSome}
+use Rattle.std.specs.Prelude.{◌≡◌, ℕ, ◌+◌, ◌⊎◌, true, List, Option, Some, None, Result, Ok, Err, IfSome}
 use Rattle.any_log.specs.Whole.{HasWhole}
 use Rattle.driver_core.specs.State.{State}
 use Rattle.driver_steps.specs.declared.answer.Answer.{Answer}
@@ -12,6 +12,7 @@ use Rattle.driver_steps.specs.Moves.{Move, WholeLog, for_source, offer_move, pol
 use Rattle.log_arena.specs.Homes.{Home}
 use Rattle.log_pairs.specs.Polling.{Fetched}
 use Rattle.log_slots.specs.Slots.{GivesIn, IsSlot, Moves, SlotLog}
+use Rattle.media_driver.specs.Clients.{Attached}
 use Rattle.media_driver.specs.declared.faults.OfferFault.{OfferFault}
 use Rattle.media_driver.specs.declared.faults.OfferFault.TheVariants as offers
 use Rattle.media_driver.specs.declared.faults.PollFault.{PollFault}
@@ -74,7 +75,11 @@ abbrev pub MayLack : Home → (WholeLog → Move) → PollFault → Type 0
 MayLack home move polls.NoMemory = IsGiving home move
 MayLack home move fault = Unit {0}
 
+-- one more message is counted, or the driver's total is at its greatest value
+abbrev pub CountsOne : Attached → Attached → Type 0
+CountsOne old new = (new.counted ≡ old.counted + 1) ⊎ ((new.counted ≡ old.counted) × (new.ended ≡ true))
+
 -- a message that was taken counts once more, unless no more are counted; nothing else counts
-abbrev pub Counts : {T E : Type 0} → Result T E → ℕ → ℕ → Type 0
-Counts (Ok position) old new = (new ≡ old + 1) ⊎ (new ≡ old)
-Counts (Err fault) old new = new ≡ old
+abbrev pub Counts : {T E : Type 0} → Result T E → Attached → Attached → Type 0
+Counts (Ok position) old new = CountsOne old new
+Counts (Err fault) old new = new.counted ≡ old.counted

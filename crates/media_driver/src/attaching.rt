@@ -3,7 +3,7 @@
 ghost use Rattle.media_driver.specs.Attaching.{AttachFails, Attaches};
 ghost use Rattle.media_driver.specs.declared.faults.AttachFault.TheVariants.{Full as IsFull};
 ghost use mathlib.Core.List.{IsPrefix};
-ghost use Rattle.std.specs.Prelude.{◌≡◌, ◌+◌, ◌-◌, ◌≤◌, ◌<◌, IfErr, IfOk, IsErrOf};
+ghost use Rattle.std.specs.Prelude.{◌≡◌, ◌+◌, ◌-◌, ◌≤◌, ◌<◌, false, IfErr, IfOk, IsErrOf};
 
 use crate::asking::ask;
 use crate::client::Client;
@@ -38,7 +38,7 @@ impl<N: DriverNaming, R: Threads + Wait, C: Clock + Copy> Driver<N, R, C> {
     fn admit(&mut self, handles: Handles<N>, number: u64, receipt: &Receipt) -> Client<N, C>
         requires room { self.old.out < 64 }
         requires ours { receipt.now.book ≡ N.book }
-        ensures client { (result.number ≡ number) × (result.correlation ≡ 0) × (result.counted ≡ 0) }
+        ensures client { (result.number ≡ number) × (result.correlation ≡ 0) × (result.counted ≡ 0) × (result.ended ≡ false) }
         ensures learned { IsPrefix receipt.now.entries result.known.entries }
         ensures out { self.new ≡ record self.old { out = self.old.out + 1 } }
     {
@@ -62,6 +62,7 @@ impl<N: DriverNaming, R: Threads + Wait, C: Clock + Copy> Driver<N, R, C> {
             mails,
             cache,
             share,
+            ended: None,
             slots,
             totals,
             clock: self.clock,
@@ -79,7 +80,7 @@ impl<N: DriverNaming, R: Threads + Wait, C: Clock + Copy> Driver<N, R, C> {
     /// # Errors
     /// `Full` where 64 clients are out, and then nothing is asked; the others as the conductor answers.
     pub fn client(&mut self, principal: u32) -> Result<Client<N, C>, AttachFault>
-        ensures attached { IfOk result (λ client. (client.correlation ≡ 0) × (client.counted ≡ 0)) }
+        ensures attached { IfOk result (λ client. (client.correlation ≡ 0) × (client.counted ≡ 0) × (client.ended ≡ false)) }
         ensures done { IfOk result (λ client. Attaches principal client.number client.known self.old self.new) }
         ensures full { 64 ≤ self.old.out → IsErrOf result IsFull }
         ensures err { IfErr result (λ fault. AttachFails principal fault self.old self.new) }

@@ -4,7 +4,7 @@ ghost use Rattle.media_driver.specs.Clients.{Learns};
 ghost use Rattle.std.specs.Prelude.{◌≡◌, ◌≤◌};
 
 use decision_cache::Cache;
-use log_slots::{OfClients, Totals};
+use log_slots::{AtEnd, OfClients, Totals};
 use media_agents::{Clock, DriverNaming, EventSender, LogAt, Mail, Slots};
 use published_registry::{Pass, Receipt, caches_stay_right_of_later_looks};
 use rtrb::Consumer;
@@ -31,6 +31,8 @@ pub struct Client<N: DriverNaming, C: Clock> {
     pub(crate) cache: Cache,
     /// Its share of the ledger of all messages.
     pub(crate) share: Share<OfClients<N>>,
+    /// That the driver's total was at its greatest value when a message was not counted; none before.
+    pub(crate) ended: Option<AtEnd<N>>,
     pub(crate) slots: Arc<Slots<N>>,
     pub(crate) totals: Arc<Mutex<Totals<N>>>,
     pub(crate) clock: C,
@@ -46,7 +48,7 @@ impl<N: DriverNaming, C: Clock> Model for Client<N, C> {
     ghost use Rattle.media_driver.specs.Clients.{Attached};
     ghost use Rattle.published_registry.specs.Histories.{history_in, registry_of};
     ghost use Rattle.rtrb.specs.Ring.{known_items, received};
-    ghost use Rattle.std.specs.Prelude.{◌≡◌, IsSome};
+    ghost use Rattle.std.specs.Prelude.{◌≡◌, IsSome, is_some};
 
     ghost Value = { Attached };
 
@@ -59,6 +61,7 @@ impl<N: DriverNaming, C: Clock> Model for Client<N, C> {
       taken = received client.mails;
       waiting = known_items client.mails;
       counted = client.share.amount;
+      ended = is_some client.ended;
     } };
 
     ghost invariant = { λ client. IsSome client.pass × ((history_in client.pass).book ≡ N.book)

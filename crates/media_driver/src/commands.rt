@@ -3,7 +3,7 @@
 
 ghost use Rattle.command_codec.specs.Command.{command_bytes};
 ghost use Rattle.command_codec.specs.declared.command.Body.TheVariants as bodies;
-ghost use Rattle.media_driver.specs.Clients.{Commands};
+ghost use Rattle.media_driver.specs.Clients.{Commands, HandsOn};
 ghost use Rattle.std.specs.Prelude.{◌≡◌, ◌^◌, ◌-◌, [], IfOk};
 
 use crate::client::Client;
@@ -27,6 +27,24 @@ fn laid_out(alloc: Global, command: Command) -> Result<Received, AllocError>
 }
 
 impl<N: DriverNaming, C: Clock> Client<N, C> {
+    /// Pushes bytes over this client's handle.
+    ///
+    /// # Errors
+    /// `QueueFull`, only where the queue held 1,024 events at one moment. Nothing is changed then.
+    fn hand_on<R: Wait>(&mut self, rt: &R, bytes: Received) -> Result<(), PushFault>
+        ensures { HandsOn self.old self.new bytes result }
+    {
+        let client = self.number;
+        let now = self.now();
+        match self.queue.push(rt, Event::Command { now, client, bytes }) {
+            Ok(()) => {
+                self.moment = now;
+                Ok(())
+            }
+            Err(_) => Err(PushFault::QueueFull),
+        }
+    }
+
     /// Pushes a command. Its correlation id is 1 for the first one that was pushed, and one more for each next, up to the
     /// greatest `u64`.
     ///
@@ -37,21 +55,27 @@ impl<N: DriverNaming, C: Clock> Client<N, C> {
     {
         let client = self.number;
         let correlation = self.correlation.saturating_add(1);
-        let now = self.now();
         let command = Command {
             client,
             correlation,
             body,
         };
         let bytes = laid_out(self.alloc, command)?;
-        match self.queue.push(rt, Event::Command { now, client, bytes }) {
-            Ok(()) => {
-                self.correlation = correlation;
-                self.moment = now;
-                Ok(correlation)
-            }
-            Err(_) => Err(PushFault::QueueFull),
-        }
+        self.hand_on(rt, bytes)?;
+        self.correlation = correlation;
+        Ok(correlation)
+    }
+
+    /// Hands bytes to the driver as a command over this client's handle, whatever they are: the driver says what is wrong with
+    /// them. They have a correlation id of their own.
+    ///
+    /// # Errors
+    /// As for every command.
+    pub fn command<R: Wait>(&mut self, rt: &R, bytes: &[u8]) -> Result<(), PushFault>
+        ensures { HandsOn self.old self.new bytes.now result }
+    {
+        let bytes = Received::new(self.alloc, bytes)?;
+        self.hand_on(rt, bytes)
     }
 
     /// Asks to publish a stream of a channel, together with others that do (ADD_PUBLICATION). Answered by

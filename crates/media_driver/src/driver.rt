@@ -5,6 +5,7 @@ ghost use Rattle.published_registry.specs.Histories.{registry_of};
 ghost use Rattle.driver_core.specs.Soundness.{IsSound};
 ghost use Rattle.std.specs.Prelude.{◌≡◌, [], IfOk};
 
+use crate::clock::MachineClock;
 use crate::faults::StartFault;
 use crate::parts::Parts;
 use crate::preparing::{Agents, Desks, Kept, Prepared, Ready, prepare};
@@ -87,32 +88,42 @@ fn timed<T: Turns + Drop, C: Clock + Drop>(ready: Ready<T>, clock: C) -> Work<T,
 
 impl<
     N: DriverNaming + Send + Sync + 'static,
-    R: Threads + Wait + Copy + Drop + Send + Sync + 'static,
-    C: Clock + Copy + Drop + Send + 'static,
-> Driver<N, R, C> {
-    /// Starts a driver. An agent that has nothing to do spins at first, then yields, and then sleeps, up to a millisecond.
+    R: Threads + Wait + time::Clock + Copy + Drop + Send + Sync + 'static,
+> Driver<N, R, MachineClock<R>> {
+    /// Starts a driver. The machine's time is read this once: from here on the driver's moments go on by a clock that nobody
+    /// sets. An agent that has nothing to do spins at first, then yields, and then sleeps, up to a millisecond.
     ///
     /// # Errors
-    /// `NoMemory`, or `NoThread` where the system makes no thread. The parts are let go then, and no thread is left.
+    /// `Clock` where the machine's time is not known; else as [`Driver::start_gated`]. The parts are let go then, and no thread
+    /// is left.
     pub fn start<W: Wire + Drop + Send + 'static>(
         rt: R,
         alloc: Global,
         parts: Parts,
         wire: W,
-        clock: C,
-    ) -> Result<Driver<N, R, C>, StartFault>
-    where
-        R: time::Clock,
+    ) -> Result<Driver<N, R, MachineClock<R>>, StartFault>
         requires { AreNamed N.home N.client_ledger N.client_parts N.slot_ledger N.slot_parts N.book parts }
         ensures { IfOk result (λ driver. (driver.out ≡ 0) × (driver.counted ≡ 0) × (driver.queue.sent ≡ []) × (driver.elicited ≡ [])) }
     {
-        Driver::start_gated(rt, alloc, parts, wire, clock, Backoff::new(rt))
+        match MachineClock::start(rt) {
+            Ok(clock) => Driver::start_gated(rt, alloc, parts, wire, clock, Backoff::new(rt)),
+            Err(fault) => {
+                drop(parts.end(&rt));
+                Err(StartFault::Clock(fault))
+            }
+        }
     }
+}
 
-    /// The same, where the agents pass that gate before each turn.
+impl<
+    N: DriverNaming + Send + Sync + 'static,
+    R: Threads + Wait + Copy + Drop + Send + Sync + 'static,
+    C: Clock + Copy + Drop + Send + 'static,
+> Driver<N, R, C> {
+    /// Starts a driver whose moments are those of that clock, and whose agents pass that gate before each turn.
     ///
     /// # Errors
-    /// As [`Driver::start`].
+    /// `NoMemory`, or `NoThread` where the system makes no thread. The parts are let go then, and no thread is left.
     pub fn start_gated<W: Wire + Drop + Send + 'static, G: Gate + Drop + Send + Sync + 'static>(
         rt: R,
         alloc: Global,
@@ -173,5 +184,10 @@ impl<
             kept,
             out: 0,
         })
+    }
+
+    /// The moment by the driver's clock, in nanoseconds since 1970.
+    pub fn now(&self) -> u64 {
+        self.clock.now()
     }
 }

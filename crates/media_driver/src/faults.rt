@@ -3,7 +3,7 @@
 ghost use Rattle.media_driver.specs.declared.faults.MakeFault.TheVariants as make;
 ghost use Rattle.media_driver.specs.declared.faults.PushFault.TheVariants as push;
 ghost use Rattle.media_driver.specs.declared.faults.StartFault.TheVariants as start;
-ghost use Rattle.media_driver.specs.Faults.{make_text, start_text};
+ghost use Rattle.media_driver.specs.Faults.{clock_text, make_text, start_text};
 ghost use Rattle.std.specs.Prelude.{◌≡◌, Some};
 
 use policy_core::Verdict;
@@ -20,12 +20,23 @@ pub enum MakeFault {
     NoPass,
 }
 
+/// Why no clock of a driver begins.
+#[derive(Clone, Copy, Debug, PartialEq, Eq)]
+pub enum ClockFault {
+    /// The machine's time can't be read, or is before 1970.
+    Unread,
+    /// The machine's time is 2^63 nanoseconds after 1970, which is in the year 2262, or later.
+    PastEnd,
+}
+
 /// Why a driver does not start.
 #[derive(Clone, Copy, Debug, PartialEq, Eq)]
 pub enum StartFault {
     NoMemory,
     /// The system makes no thread.
     NoThread,
+    /// The driver's clock does not begin.
+    Clock(ClockFault),
 }
 
 /// Why a client does not attach.
@@ -139,6 +150,17 @@ impl fmt::Display for MakeFault {
     }
 }
 
+impl fmt::Display for ClockFault {
+    ghost output = { λ fault. Some (clock_text fault) };
+
+    fn fmt<W: fmt::Write>(&self, f: &mut fmt::Formatter<W>) -> fmt::Result {
+        match self {
+            ClockFault::Unread => f.write_str("the time is not known, or before 1970"),
+            ClockFault::PastEnd => f.write_str("the time is past 2^63 nanoseconds since 1970"),
+        }
+    }
+}
+
 impl fmt::Display for StartFault {
     ghost output = { λ fault. Some (start_text fault) };
 
@@ -146,6 +168,7 @@ impl fmt::Display for StartFault {
         match self {
             StartFault::NoMemory => f.write_str("no memory"),
             StartFault::NoThread => f.write_str("no thread"),
+            StartFault::Clock(fault) => fault.fmt(f),
         }
     }
 }

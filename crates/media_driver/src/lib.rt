@@ -28,10 +28,11 @@ mod threads;
 mod works;
 
 pub use client::Client;
-pub use clock::MachineClock;
+pub use clock::{MachineClock, MachineTime};
 pub use driver::Driver;
 pub use faults::{
-    AttachFault, LookFault, MakeFault, OfferFault, PollFault, PushFault, ReloadFault, StartFault,
+    AttachFault, ClockFault, LookFault, MakeFault, OfferFault, PollFault, PushFault, ReloadFault,
+    StartFault,
 };
 pub use media_agents::{ClientReply, Clock, DriverNaming, ElicitFault, Elicitation, Gate, Mail};
 pub use parts::Parts;

@@ -8,14 +8,14 @@ ghost use Rattle.log_slots.specs.Counting.{taken_by};
 ghost use Rattle.media_driver.specs.Clients.{Looks};
 ghost use Rattle.media_driver.specs.Steps.{Counts, IsOffer, IsStep, offer_answer};
 ghost use Rattle.published_registry.specs.Histories.{IsContinuedBy, registry_of};
-ghost use Rattle.std.specs.Prelude.{◌≡◌, ◌+◌, ◌≤◌, ◌⊎◌, IfErr, IfNone, IfSome, Err, None};
+ghost use Rattle.std.specs.Prelude.{◌≡◌, ◌+◌, ◌≤◌, ◌⊎◌, IfErr, IfNone, IfSome, IsSome, Err, None};
 
 use crate::client::Client;
 use crate::faults::OfferFault;
 use decision_cache::Cache;
 use driver_core::View;
 use driver_steps::{Answer, Offered, Told};
-use log_slots::{Late, OfClients, Slot, Totals};
+use log_slots::{AtEnd, Late, OfClients, Slot, Totals};
 use media_agents::{Clock, DriverNaming, LogAt};
 use published_registry::{Pass, caches_stay_right_of_later_looks};
 use std::sync::ledger::Share;
@@ -41,7 +41,8 @@ fn log_at(registry: &driver_core::Registry, client: u64, registration: u64) -> O
     Some(LogAt::of(row))
 }
 
-/// One hold of a log's lock, with one look within it; the lock of the totals comes last.
+/// One hold of a log's lock, with one look within it; the lock of the totals comes last. Where they are at their greatest
+/// value and the message is not counted, `ended` has that from then on.
 fn offer_once<N: DriverNaming, R: Wait>(
     rt: &R,
     slot: &Mutex<Slot<N>>,
@@ -49,6 +50,7 @@ fn offer_once<N: DriverNaming, R: Wait>(
     pass: Pass,
     cache: &mut Cache,
     mine: &mut Share<OfClients<N>>,
+    ended: &mut Option<AtEnd<N>>,
     now: u64,
     client: u64,
     registration: u64,
@@ -59,7 +61,7 @@ fn offer_once<N: DriverNaming, R: Wait>(
     ensures known { IsContinuedBy pass result.0 }
     ensures part { mine.new.parts ≡ 1 }
     ensures right { AreCached (registry_of result.0) cache.new }
-    ensures counted { IfSome result.1 (λ told. (mine.new.amount ≡ mine.old.amount + taken_by told.answer) ⊎ (mine.new.amount ≡ mine.old.amount)) }
+    ensures counted { IfSome result.1 (λ told. (mine.new.amount ≡ mine.old.amount + taken_by told.answer) ⊎ ((mine.new.amount ≡ mine.old.amount) × IsSome ended.new)) }
     ensures none { IfNone result.1 (mine.new.amount ≡ mine.old.amount) }
     ensures step { IfSome result.1 (λ told. IsStep N.home (offer_move (registry_of result.0) now client registration message.now) (OfferedAs Closed) told.answer) }
 {
@@ -68,7 +70,11 @@ fn offer_once<N: DriverNaming, R: Wait>(
     slot.holds();
     match pass.enter() {
         Ok(look) => {
-            let mut late = Late { rt, totals, end: 0 };
+            let mut late = Late {
+                rt,
+                totals,
+                end: ended.take(),
+            };
             let told = slot.offer(
                 &mut late,
                 mine,
@@ -79,6 +85,7 @@ fn offer_once<N: DriverNaming, R: Wait>(
                 registration,
                 message,
             );
+            *ended = late.end;
             (look.leave(), Some(told))
         }
         Err(pass) => (pass, None),
@@ -142,8 +149,8 @@ impl<N: DriverNaming, C: Clock> Client<N, C> {
     ) -> Result<u64, OfferFault>
         ensures known { IsContinuedBy self.old.known self.new.known }
         ensures moment { self.old.moment ≤ self.new.moment }
-        ensures same { self.new ≡ record self.old { known = self.new.known; moment = self.new.moment; counted = self.new.counted } }
-        ensures counted { Counts result self.old.counted self.new.counted }
+        ensures same { self.new ≡ record self.old { known = self.new.known; moment = self.new.moment; counted = self.new.counted; ended = self.new.ended } }
+        ensures counted { Counts result self.old self.new }
         ensures step { IsOffer N.home (registry_of self.new.known) self.new.moment self.old.number registration message.now result }
     {
         caches_stay_right_of_later_looks();
@@ -167,6 +174,7 @@ impl<N: DriverNaming, C: Clock> Client<N, C> {
             pass,
             &mut self.cache,
             &mut self.share,
+            &mut self.ended,
             now,
             self.number,
             registration,

@@ -3,6 +3,7 @@ ghost use Rattle.media_driver.specs.Parts.{AreNamed};
 use crate::asking::Outcome;
 use crate::each_call::each_call;
 use crate::lost_replies::replies_are_lost;
+use crate::moments::{rule_begins, rule_ends};
 use crate::network::over_a_network;
 use crate::opening::parts_at;
 use crate::publishers::two_publishers;
@@ -26,6 +27,8 @@ enum Case {
     LostReplies,
     EachCall,
     Seats,
+    RuleEnds,
+    RuleBegins,
 }
 
 /// How it goes with a driver of these parts, over a network in memory.
@@ -48,6 +51,8 @@ fn goes<
         Case::LostReplies => (replies_are_lost(rt, alloc, &mut driver), 0),
         Case::EachCall => (each_call(rt, alloc, &mut driver), 1),
         Case::Seats => (seats(rt, alloc, &mut driver), 0),
+        Case::RuleEnds => (rule_ends(rt, alloc, &mut driver), 1),
+        Case::RuleBegins => (rule_begins(rt, alloc, &mut driver), 1),
     };
     ended(alloc, driver, clients, taken)
 }
@@ -92,5 +97,17 @@ fn ample_memory(rt: HostRuntime) -> Result<(), Fail> {
 #[test]
 fn seats_of_clients(rt: HostRuntime) -> Result<(), Fail> {
     shown(rt, rt.alloc(), Case::Seats)?;
+    Ok(())
+}
+
+#[test]
+fn rule_ends_while_idle(rt: HostRuntime) -> Result<(), Fail> {
+    shown(rt, rt.alloc(), Case::RuleEnds)?;
+    Ok(())
+}
+
+#[test]
+fn rule_begins_while_idle(rt: HostRuntime) -> Result<(), Fail> {
+    shown(rt, rt.alloc(), Case::RuleBegins)?;
     Ok(())
 }

@@ -10,11 +10,15 @@ mod cases;
 #[cfg(test)]
 mod clients;
 #[cfg(test)]
+mod clocks;
+#[cfg(test)]
 mod each_call;
 #[cfg(test)]
 mod gates;
 #[cfg(test)]
 mod lost_replies;
+#[cfg(test)]
+mod moments;
 #[cfg(test)]
 mod network;
 #[cfg(test)]

@@ -29,8 +29,12 @@ pub(crate) fn started<
         parts.end(&rt);
         return Err("no memory");
     };
+    let Ok(clock) = MachineClock::start(rt) else {
+        parts.end(&rt);
+        return Err("the time is not known");
+    };
     let gate = Counting::new(rt, counted);
-    match Driver::start_gated(rt, alloc, parts, wire, MachineClock::new(rt), gate) {
+    match Driver::start_gated(rt, alloc, parts, wire, clock, gate) {
         Ok(driver) => Ok(driver),
         Err(_) => Err("the driver does not start"),
     }

@@ -58,7 +58,13 @@ fn held_up<
 ) -> Result<Driver<N, R, MachineClock<R>>, StartFault>
     requires { AreNamed N.home N.client_ledger N.client_parts N.slot_ledger N.slot_parts N.book parts }
 {
-    let clock = MachineClock::new(rt);
+    let clock = match MachineClock::start(rt) {
+        Ok(clock) => clock,
+        Err(fault) => {
+            parts.end(&rt);
+            return Err(StartFault::Clock(fault));
+        }
+    };
     Driver::start_gated(rt, alloc, parts, Network::new(alloc), clock, gate)
 }
 

@@ -3,6 +3,7 @@ use Rattle.std.specs.Prelude.{ℕ, zero, suc, pos, List, Option, None, option_ma
 use Rattle.channel_uri.specs.Channel.{Shape}
 use Rattle.policy_core.specs.declared.act.Act.{Act}
 use Rattle.policy_core.specs.declared.verdict.Verdict.{Verdict}
+use Rattle.policy_core.specs.Moments.{at}
 use Rattle.policy_core.specs.Question.{Question}
 use Rattle.policy_core.specs.RuleList.{Rules}
 use Rattle.policy_core.specs.Rules.{verdict_of}
@@ -27,6 +28,7 @@ abbrev pub policy_of : List Rules → ℕ → Option Rules
 policy_of policies zero = None
 policy_of policies (suc place) = slice_get policies place
 
--- what the policy of this number decides, if there is one
-abbrev pub answer_of : Held → ℕ → Question → Option Verdict
-answer_of held number question = option_map (λ policy. verdict_of policy number question) (policy_of held.policies number)
+-- what the policy of this number decides at that moment, if there is one
+abbrev pub answer_of : Held → ℕ → ℕ → Question → Option Verdict
+answer_of held number moment question =
+    option_map (λ policy. verdict_of (at policy moment) number question) (policy_of held.policies number)

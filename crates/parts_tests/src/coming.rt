@@ -18,7 +18,14 @@ fn would_read(alloc: Global, play: &Play, client: u64, pairs: &[Pair]) -> bool {
     let count = play
         .readers
         .pair_count_with_subscription(&play.streams, &play.clients, &play.policy.at(0), 1, &wish);
-    match pairs_of_subscription(alloc, &play.streams, &play.clients, &play.policy.at(0), 1, &wish) {
+    match pairs_of_subscription(
+        alloc,
+        &play.streams,
+        &play.clients,
+        &play.policy.at(0),
+        1,
+        &wish,
+    ) {
         Ok(found) => {
             let same = found.as_slice() == pairs;
             drop(found);
@@ -44,7 +51,7 @@ fn would_be_read(play: &Play, wanted: &Wanted, count: usize) -> bool {
     let counted = play.readers.pair_count_with_publication(
         &play.streams,
         &play.clients,
-        &play.policy,
+        &play.policy.at(0),
         1,
         9,
         1,

@@ -247,7 +247,7 @@ fn is_room(compiled: &Compiled) -> bool {
 }
 
 fn is_full(compiled: &Compiled) -> bool {
-    let mut same = (compiled.policy().rules().len() == 1024) & (compiled.epoch() == 5);
+    let mut same = (compiled.policy().len() == 1024) & (compiled.epoch() == 5);
     for &(stream, by, wanted) in &STREAMS {
         same &= is_by(compiled, stream, by) == wanted;
     }
@@ -268,7 +268,7 @@ fn copy_is_full(alloc: Global, compiled: &Compiled) -> bool {
 /// Whether what has become the policy decides its streams, and its copy too.
 fn fills(alloc: Global, compiled: &mut Compiled, policy: &Policy) -> bool {
     let empty = is_room(compiled);
-    compiled.compile(policy, 5);
+    compiled.compile(policy, 5, 0);
     empty & is_full(compiled) & copy_is_full(alloc, compiled)
 }
 

@@ -59,13 +59,21 @@ impl Desk {
         self.cache.len()
     }
 
-    /// What the policy of this number decides, from the cache where it is there; `None` where there is no such policy.
-    pub fn ask(&mut self, epoch: u64, subject: u16, principal: u32, act: Act) -> Option<Verdict>
-        ensures answer { result ≡ answer_of self.old epoch (asked self.old.channel subject principal act) }
+    /// What the policy of this number decides at this moment, from the cache where it is there; `None` where there is no such
+    /// policy.
+    pub fn ask(
+        &mut self,
+        epoch: u64,
+        moment: u64,
+        subject: u16,
+        principal: u32,
+        act: Act,
+    ) -> Option<Verdict>
+        ensures answer { result ≡ answer_of self.old epoch moment (asked self.old.channel subject principal act) }
         ensures channel { self.new.channel ≡ self.old.channel }
         ensures policies { self.new.policies ≡ self.old.policies }
         ensures kept { IfSome result (λ verdict. AddsAtMost self.old.verdicts self.new.verdicts
-            (key_of epoch subject (asked self.old.channel subject principal act)) verdict) }
+            (key_of epoch moment subject (asked self.old.channel subject principal act)) verdict) }
         ensures unknown { IfNone result (self.new ≡ self.old) }
     {
         let place = (epoch as usize).checked_sub(1)?;
@@ -80,7 +88,7 @@ impl Desk {
         let numbered = Numbered {
             policy,
             epoch,
-            moment: 0,
+            moment,
         };
         Some(self.cache.verdict(&numbered, u64::from(subject), &request))
     }

@@ -40,8 +40,8 @@ fn are_decided(desk: &mut Desk, epoch: u64, allow: bool) -> bool {
             rule,
             epoch,
         });
-        same &= desk.ask(epoch, subject, principal, Act::Offer) == wanted;
-        same &= desk.ask(epoch, subject, principal, Act::Offer) == wanted;
+        same &= desk.ask(epoch, 0, subject, principal, Act::Offer) == wanted;
+        same &= desk.ask(epoch, 0, subject, principal, Act::Offer) == wanted;
     }
     same
 }
@@ -63,7 +63,7 @@ fn are_in_turn(alloc: Global, desk: &mut Desk) -> bool {
         same &= desk.held() as u64 == epoch.wrapping_mul(6);
     }
     same &= are_decided(desk, 1, true) & (desk.held() == 24);
-    same & desk.ask(5, 9, 1, Act::Offer).is_none() & desk.ask(0, 9, 1, Act::Offer).is_none()
+    same & desk.ask(5, 0, 9, 1, Act::Offer).is_none() & desk.ask(0, 0, 9, 1, Act::Offer).is_none()
 }
 
 /// Whether policy 1 allows that or denies it, and so many verdicts are held then.
@@ -75,7 +75,7 @@ fn is_asked(
     allow: bool,
     held: usize,
 ) -> bool {
-    match desk.ask(1, subject, principal, act) {
+    match desk.ask(1, 0, subject, principal, act) {
         Some(verdict) => (verdict.allow == allow) & (desk.held() == held),
         None => false,
     }

@@ -36,6 +36,8 @@ mod leaving;
 #[cfg(test)]
 mod limits;
 #[cfg(test)]
+mod moments;
+#[cfg(test)]
 mod pairing;
 #[cfg(test)]
 mod patterns;

@@ -15,8 +15,6 @@ fn rule(
     channel: &str,
     low: i32,
     high: i32,
-    from: None,
-    until: None,
     allow: bool,
 ) -> Result<Rule, UriError> {
     Ok(Rule {
@@ -26,6 +24,8 @@ fn rule(
         channel: Pattern::parse(channel)?,
         low,
         high,
+        from: None,
+        until: None,
         allow,
     })
 }

@@ -12,7 +12,7 @@ use stream_registry::{ImageWanted, LogPlace, Measures, Pair, Streams, Wanted, Wi
 /// How long a log lingers.
 pub(crate) const LINGER: u64 = 5_000;
 
-/// The lists, and their readers under a policy of number 1.
+/// The lists, and their readers under a policy of number 1, at the moment 0.
 #[derive(Drop)]
 pub(crate) struct Play {
     pub(crate) streams: Streams,
@@ -24,13 +24,14 @@ pub(crate) struct Play {
 impl Model for Play {
     ghost use Rattle.std.specs.Prelude.{◌≡◌};
     ghost use Rattle.log_readers.specs.Readers.{all_readers};
+    ghost use Rattle.policy_core.specs.Moments.{at};
     ghost use Rattle.stream_registry.specs.Streams.{Streams as StreamLists};
 
     ghost Value = { StreamLists };
 
     ghost view = { λ play. play.streams };
 
-    ghost invariant = { λ play. play.readers ≡ all_readers play.streams play.clients.rows play.policy 1 };
+    ghost invariant = { λ play. play.readers ≡ all_readers play.streams play.clients.rows (at play.policy 0) 1 };
 }
 
 pub(crate) fn pair(source: u64, subscription: u64) -> Pair {
@@ -181,7 +182,7 @@ impl Play {
         let counted = self.readers.pair_count_with_image(
             &self.streams,
             &self.clients,
-            &self.policy,
+            &self.policy.at(0),
             1,
             number,
             wanted,
@@ -190,7 +191,7 @@ impl Play {
         self.readers.add_image(
             &self.streams,
             &self.clients,
-            &self.policy,
+            &self.policy.at(0),
             1,
             number,
             wanted,
@@ -209,7 +210,7 @@ impl Play {
         self.readers.add_publication(
             &self.streams,
             &self.clients,
-            &self.policy,
+            &self.policy.at(0),
             1,
             number,
             client,

@@ -4,7 +4,7 @@ use crate::stream_play::Play;
 use byte_strings::{Items, ShortText};
 use channel_uri::{Channel, Pattern, UriError};
 use client_registry::Clients;
-use policy_core::{Act, Acts, Policy, Principals, Rule};
+use policy_core::{Act, Acts, Policy, Principals, Rule, Standing};
 use std::alloc::{AllocError, Global};
 use stream_registry::{Pair, Source, Streams, Wish, reads};
 
@@ -52,7 +52,7 @@ fn two_clients(alloc: Global) -> Result<Clients, AllocError> {
 fn would_read(
     streams: &Streams,
     clients: &Clients,
-    policy: &Policy,
+    policy: &Standing<'_>,
     client: u64,
     stream: i32,
 ) -> bool {
@@ -74,7 +74,7 @@ fn push_pairs(
     pairs: &mut Items<Pair>,
     streams: &Streams,
     clients: &Clients,
-    policy: &Policy,
+    policy: &Standing<'_>,
     log: &Source,
 ) -> Result<(), AllocError> {
     for subscription in streams.subscriptions() {
@@ -89,7 +89,11 @@ fn push_pairs(
 }
 
 /// All pairs: each log is looked at.
-fn all_pairs(play: &Play, clients: &Clients, policy: &Policy) -> Result<Items<Pair>, AllocError> {
+fn all_pairs(
+    play: &Play,
+    clients: &Clients,
+    policy: &Standing<'_>,
+) -> Result<Items<Pair>, AllocError> {
     let mut pairs = Items::new(play.alloc);
     for log in play.streams.sources() {
         push_pairs(&mut pairs, &play.streams, clients, policy, log)?;
@@ -97,21 +101,21 @@ fn all_pairs(play: &Play, clients: &Clients, policy: &Policy) -> Result<Items<Pa
     Ok(pairs)
 }
 
-fn pairs_are(play: &Play, clients: &Clients, policy: &Policy, pairs: &[Pair]) -> bool {
+fn pairs_are(play: &Play, clients: &Clients, policy: &Standing<'_>, pairs: &[Pair]) -> bool {
     match all_pairs(play, clients, policy) {
         Ok(found) => found.as_slice() == pairs,
         Err(_) => false,
     }
 }
 
-fn has_pair(play: &Play, clients: &Clients, policy: &Policy, pair: Pair) -> bool {
+fn has_pair(play: &Play, clients: &Clients, policy: &Standing<'_>, pair: Pair) -> bool {
     match all_pairs(play, clients, policy) {
         Ok(found) => found.as_slice().iter().any(|other| *other == pair),
         Err(_) => false,
     }
 }
 
-fn is_so(play: &Play, clients: &Clients, policy: &Policy, asked: Asked) -> bool {
+fn is_so(play: &Play, clients: &Clients, policy: &Standing<'_>, asked: Asked) -> bool {
     match asked {
         Asked::Reads(source, subscription) => has_pair(
             play,
@@ -129,7 +133,7 @@ fn is_so(play: &Play, clients: &Clients, policy: &Policy, asked: Asked) -> bool 
     }
 }
 
-fn is_so_under(play: &Play, policy: &Policy, asked: Asked) -> bool {
+fn is_so_under(play: &Play, policy: &Standing<'_>, asked: Asked) -> bool {
     match two_clients(play.alloc) {
         Ok(clients) => is_so(play, &clients, policy, asked),
         Err(_) => false,
@@ -139,7 +143,7 @@ fn is_so_under(play: &Play, policy: &Policy, asked: Asked) -> bool {
 /// Whether that is so where `image` is denied to principal 2, or everything is allowed.
 pub(crate) fn is_asked(play: &Play, is_denied: bool, asked: Asked) -> bool {
     match policy(play.alloc, is_denied) {
-        Ok(policy) => is_so_under(play, &policy, asked),
+        Ok(policy) => is_so_under(play, &policy.at(0), asked),
         Err(_) => false,
     }
 }

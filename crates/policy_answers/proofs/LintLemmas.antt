@@ -1,5 +1,5 @@
 -- What is found in a file is clean only where the file is a policy.
-use Rattle.std.proofs.Common.{◌≡◌, ◌<◌, ◌==◌, ◌&&◌, ◌||◌, not, Bool, true, false, Result, Ok, Err, [], length, is_ok, refl, ap, sym, ◌∙◌, arith}
+use Rattle.std.proofs.Common.{ℕ, Option, ◌≡◌, ◌<◌, ◌==◌, ◌&&◌, ◌||◌, not, Bool, true, false, Result, Ok, Err, [], length, is_ok, refl, ap, sym, ◌∙◌, arith}
 use Rattle.std.proofs.lemmas.Bool.{and_parts, eqb-true, ne_eqb}
 use Rattle.policy_core.specs.RuleList.{Rules}
 use Rattle.policy_lint.specs.Report.{IsOf, is_clean}
@@ -12,15 +12,15 @@ clean_is_policy (Ok policy) report strict refused clean = refl
 clean_is_policy (Err fault) report strict refused clean =
     let some : 0 < length report.faults.items = refused fault refl in
     let none : length report.faults.items ≡ 0 =
-    eqb-true _ 0 (and_parts (length report.faults.items == 0) (not strict || (length report.hidden.items == 0) && (length report.unmet.items == 0) && (length report.warnings.items == 0)) clean).0 in
+    eqb-true _ 0 (and_parts (length report.faults.items == 0) (not strict || (length report.hidden.items == 0) && (length report.unmet.items == 0) && (length report.over.items == 0) && (length report.ending.items == 0) && (length report.warnings.items == 0)) clean).0 in
     absurd (omega arith)
 
-pub policy_is_clean : (read : Result Rules PolicyFault) (report : Report) (strict : Bool) → ((policy : Rules) → read ≡ Ok policy → IsOf policy report) →
+pub policy_is_clean : (read : Result Rules PolicyFault) (moment : ℕ) (soon : Option ℕ) (report : Report) (strict : Bool) → ((policy : Rules) → read ≡ Ok policy → IsOf policy moment soon report) →
     ((fault : PolicyFault) → read ≡ Err fault → 0 < length report.faults.items) → strict ≡ false → is_clean strict report ≡ is_ok read
-policy_is_clean (Ok policy) report strict accepted refused lenient =
+policy_is_clean (Ok policy) moment soon report strict accepted refused lenient =
     let none = (accepted policy refl).sound in
     rw (lenient, none) refl
-policy_is_clean (Err fault) report strict accepted refused lenient =
+policy_is_clean (Err fault) moment soon report strict accepted refused lenient =
     let some : 0 < length report.faults.items = refused fault refl in
     let differ : (length report.faults.items == 0) ≡ false = ne_eqb _ 0 (λ e. omega arith) in
     rw differ refl

@@ -21,8 +21,9 @@ use policy_lint::lint;
 use policy_tools::{Case, Directory, Failure, Report, Source, cases_in};
 use std::alloc::{AllocError, Global};
 
-/// What is wrong with a file as a policy, and what is likely not meant. It is well where there is no fault and, under
-/// `strict`, no warning. The file is named by its path.
+/// What is wrong with a file as a policy, and what is likely not meant at a moment: `soon` is the period within which a rule that
+/// ends is warned of, if one is. It is well where there is no fault and, under `strict`, no warning. The file is named by its
+/// path.
 ///
 /// # Errors
 /// That there is no memory.
@@ -32,12 +33,14 @@ pub fn find_faults(
     directory: &Directory,
     path: &str,
     strict: bool,
+    moment: u64,
+    soon: Option<u64>,
 ) -> Result<Answer, AskFault>
     ensures sound { IfOk result (λ answer. answer.is_well ≡ true → is_ok (policy_in directory.now policy.now) ≡ true) }
     ensures exact { IfOk result (λ answer. strict ≡ false → answer.is_well ≡ is_ok (policy_in directory.now policy.now)) }
     ensures err { IfErr result (λ fault. fault ≡ faults.NoMemory) }
 {
-    let report = lint(alloc, policy, directory.names())?;
+    let report = lint(alloc, policy, directory.names(), moment, soon)?;
     Ok(Answer {
         text: report.text(alloc, path)?,
         is_well: report.is_clean(strict),

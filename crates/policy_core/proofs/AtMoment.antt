@@ -1,19 +1,17 @@
 -- What rules and a policy are at a moment.
-use Rattle.std.proofs.Common.{◌≡◌, ℕ, ◌+◌, ◌<◌, Bool, true, false, cond, not, ◌&&◌, ◌||◌, List, [], ◌∷◌, ◌++◌, Option, Some, None, refl, ap, ap₂, sym, ◌∙◌, subst, length, map, filter, slice_get, slice_index_or, position, option_map, nat_lt, true≢false}
+use Rattle.std.proofs.Common.{◌≡◌, ℕ, ◌+◌, Bool, true, false, cond, not, ◌&&◌, List, [], ◌∷◌, Option, Some, None, refl, ap, ap₂, sym, ◌∙◌, length, map, slice_get, slice_index_or, position, option_map, nat_lt, true≢false}
 use Rattle.std.specs.List.{position_or_len}
 use Rattle.std.proofs.lemmas.Option.{slice_get-map}
 use Rattle.std.proofs.lemmas.List.{length-map}
 use Rattle.policy_core.specs.declared.act.Act.{Act}
-use Rattle.policy_core.specs.declared.act.Act.TheVariants.{Publish, PublishExclusive, Subscribe, Spy, Destination, Counter, Terminate, Offer, Image, Receive, Send, Retransmit, List as ListOf}
-use Rattle.policy_core.specs.declared.acts.Acts.{Acts}
+use Rattle.policy_core.specs.declared.act.Act.TheVariants.{Publish, PublishExclusive, Subscribe, Spy, Destination, Counter, Terminate, Offer, Image, Receive, Send, Retransmit, List as ListOf, Join}
 use Rattle.policy_core.specs.declared.rule.Rule.{Rule}
-use Rattle.policy_core.specs.declared.verdict.Verdict.{Verdict}
 use Rattle.policy_core.specs.Acts.{holds, no_act_held}
-use Rattle.policy_core.specs.Moments.{as_of, at, bound_of, bounds, bounds_of, coming, ever, is_allowed_by_any, stands_at}
+use Rattle.policy_core.specs.Moments.{as_of, at, stands_at}
 use Rattle.policy_core.specs.Question.{Question}
 use Rattle.policy_core.specs.Rule.{matches, speaks_of}
 use Rattle.policy_core.specs.RuleList.{Rules}
-use Rattle.policy_core.specs.Rules.{verdict_of, verdict_at, word_at, ruled, defaulted}
+use Rattle.policy_core.specs.Rules.{verdict_of, verdict_at, word_at, ruled}
 
 none_held : (act : Act) → holds no_act_held act ≡ false
 none_held Publish = refl
@@ -29,6 +27,7 @@ none_held Receive = refl
 none_held Send = refl
 none_held Retransmit = refl
 none_held ListOf = refl
+none_held Join = refl
 
 second_fails : (a b c d e : Bool) → b ≡ false → (a && b && c && d && e) ≡ false
 second_fails false b c d e h = refl

@@ -1,12 +1,10 @@
 -- What stands at a place of a policy at a moment.
-use Rattle.std.proofs.Common.{◌≡◌, ℕ, ◌<◌, ◌≤◌, Bool, List, Some, get_or, subst, ap, sym, ◌∙◌, slice_get, length}
+use Rattle.std.proofs.Common.{◌≡◌, ℕ, ◌<◌, Some, get_or, subst, ap, sym, ◌∙◌, slice_get, length}
 use Rattle.std.proofs.lemmas.Option.{slice_get-get_or}
 use Rattle.policy_core.specs.declared.rule.Rule.{Rule}
 use Rattle.policy_core.specs.Moments.{as_of, at}
-use Rattle.policy_core.specs.Question.{Question}
-use Rattle.policy_core.specs.Rule.{matches}
 use Rattle.policy_core.specs.RuleList.{Rules}
-use Rattle.policy_core.proofs.AtMoment.{as_of_allow, at_length, at_place}
+use Rattle.policy_core.proofs.AtMoment.{at_length, at_place}
 
 -- a place of the policy at the moment is one of the policy
 pub within : (policy now : Rules) (moment place : ℕ) → at policy moment ≡ now → place < length now.rules → place < length policy.rules

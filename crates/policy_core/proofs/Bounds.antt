@@ -1,18 +1,12 @@
 -- What bounds of rules come to: between two of them nothing changes.
-use Rattle.std.proofs.Common.{◌≡◌, ℕ, ◌<◌, ◌≤◌, Bool, true, false, cond, ◌&&◌, ◌||◌, ◌⊎◌, List, [], ◌∷◌, ◌++◌, Option, Some, None, refl, ap, ap₂, sym, ◌∙◌, subst, map, filter, nat_lt, nat_le, true≢false, ⊎_elim, arith, is_some}
+use Rattle.std.proofs.Common.{◌≡◌, ℕ, ◌<◌, ◌≤◌, Bool, true, false, cond, ◌&&◌, List, [], ◌∷◌, ◌++◌, Option, Some, None, refl, ap, ap₂, sym, ◌∙◌, subst, map, filter, nat_lt, nat_le, true≢false, ⊎_elim, arith, is_some}
 use Rattle.std.proofs.lemmas.Bool.{cases_Bool, and_parts}
 use Rattle.std.proofs.lemmas.Bool.Decides.{nat_tests}
-use Rattle.std.specs.List.{flat_map}
 use Rattle.policy_core.specs.declared.rule.Rule.{Rule}
 use Rattle.policy_core.specs.Acts.{no_act_held}
-use Rattle.policy_core.specs.Moments.{as_of, at, bound_of, bounds, bounds_of, coming, ever, has_begun, is_allowed_by_any, is_not_over, least_of, sooner, stands_at, steady_until}
+use Rattle.policy_core.specs.Moments.{as_of, at, bound_of, bounds, bounds_of, coming, has_begun, is_not_over, least_of, sooner, steady_until}
 use Rattle.policy_core.specs.MomentLaws.{is_before}
-use Rattle.policy_core.specs.Question.{Question}
 use Rattle.policy_core.specs.RuleList.{Rules}
-use Rattle.policy_core.specs.Rules.{verdict_of}
-
-
-
 
 -- the bound is not passed between the two moments
 abbrev IsAhead : ℕ → ℕ → ℕ → Type 0
@@ -35,12 +29,14 @@ sooner_ahead moment later (Some found) bound = ⊎_elim
     let at' : later < bound = grind (arith, nat_tests, h') in
     (grind (arith, nat_tests, before, at'), λ after. at'))
     (λ no h. let h' : nat_lt later found ≡ true = rw no at h in
-    let before : later < found = grind (arith, nat_tests, h') in
-    (h', λ after.
-    ⊎_elim
-    (λ under. absurd (let yes : (nat_lt moment bound && nat_lt bound found) ≡ true = grind (arith, nat_tests) in true≢false (sym yes ∙ no)))
-    (λ over. let over' : found ≤ bound = grind (arith, nat_tests, over) in omega (arith, before, over'))
-    (cases_Bool (nat_lt bound found))))
+    let before : later < found = grind (arith, nat_tests, h') in (
+      h',
+      λ after.
+          ⊎_elim
+          (λ under. absurd (let yes : (nat_lt moment bound && nat_lt bound found) ≡ true = grind (arith, nat_tests) in true≢false (sym yes ∙ no)))
+          (λ over. let over' : found ≤ bound = grind (arith, nat_tests, over) in omega (arith, before, over'))
+          (cases_Bool (nat_lt bound found)),
+    ))
     (cases_Bool (nat_lt moment bound && nat_lt bound found))
 
 pub all_ahead : (moment later : ℕ) (found : Option ℕ) (bounds : List ℕ) → is_before later (least_of moment found bounds) ≡ true

@@ -1,5 +1,5 @@
 -- What is allowed at some moment is allowed at one bound of a rule, or now.
-use Rattle.std.proofs.Common.{◌≡◌, ℕ, zero, suc, ◌+◌, ◌<◌, ◌≤◌, Bool, true, false, cond, ◌&&◌, ◌||◌, ◌⊎◌, List, [], ◌∷◌, Option, Some, None, refl, ap, sym, ◌∙◌, subst, map, filter, nat_lt, true≢false, ⊎_elim, arith, inl, inr, is_some}
+use Rattle.std.proofs.Common.{◌≡◌, ℕ, zero, suc, ◌+◌, ◌<◌, ◌≤◌, Bool, true, false, cond, ◌&&◌, ◌||◌, ◌⊎◌, List, [], ◌∷◌, Option, Some, None, refl, ap, sym, subst, map, filter, nat_lt, true≢false, ⊎_elim, arith, inl, inr, is_some}
 use Rattle.std.proofs.lemmas.Bool.{cases_Bool, and_parts}
 use Rattle.std.proofs.lemmas.Bool.Decides.{nat_tests}
 use Rattle.policy_core.specs.Moments.{at, bounds, coming, ever, is_allowed_by_any, least_of, sooner, steady_until}

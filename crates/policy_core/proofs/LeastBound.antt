@@ -1,9 +1,9 @@
 -- The bound until which a policy is steady is the least one after the moment.
-use Rattle.std.proofs.Common.{◌≡◌, ℕ, zero, suc, ◌<◌, ◌≤◌, ◌⊎◌, Bool, true, false, List, [], ◌∷◌, ◌++◌, Option, Some, None, refl, ap, sym, ◌∙◌, subst, nat_lt, true≢false, ⊎_elim, arith, inl, inr, is_some, slice_get}
+use Rattle.std.proofs.Common.{◌≡◌, ℕ, zero, suc, ◌<◌, ◌≤◌, ◌⊎◌, true, List, [], ◌∷◌, ◌++◌, Option, Some, None, refl, ap, sym, subst, nat_lt, true≢false, ⊎_elim, arith, inl, inr, is_some, slice_get}
 use Rattle.std.proofs.lemmas.Bool.{cases_Bool}
 use Rattle.std.proofs.lemmas.Bool.Decides.{nat_tests}
 use Rattle.policy_core.specs.declared.rule.Rule.{Rule}
-use Rattle.policy_core.specs.Moments.{bound_of, bounds, bounds_of, least_of, steady_until}
+use Rattle.policy_core.specs.Moments.{bound_of, bounds, bounds_of, steady_until}
 use Rattle.policy_core.specs.MomentLaws.{IsBoundOf, IsLeastAfter, is_before}
 use Rattle.policy_core.specs.RuleList.{Rules}
 use Rattle.policy_core.proofs.Bounds.{AreAhead, all_ahead}
@@ -53,10 +53,15 @@ in_bounds (first ∷ rules) bound (suc place) rule there is =
 pub of_a_rule : (rules : List Rule) (bound : ℕ) → Has bound (bounds rules) → IsBoundIn rules bound
 of_a_rule [] bound h = absurd (true≢false h)
 of_a_rule (first ∷ rules) bound h = ⊎_elim
-    (λ here. (zero, first, refl, ⊎_elim
-    (λ begins. inl (one_has bound first.from begins))
-    (λ ends. inr (one_has bound first.until ends))
-    (parts_of bound (bound_of first.from) (bound_of first.until) here)))
+    (λ here. (
+      zero,
+      first,
+      refl,
+      ⊎_elim
+          (λ begins. inl (one_has bound first.from begins))
+          (λ ends. inr (one_has bound first.until ends))
+          (parts_of bound (bound_of first.from) (bound_of first.until) here),
+    ))
     (λ rest. let found = of_a_rule rules bound rest in (suc found.0, found.1, found.2, found.3))
     (parts_of bound (bounds_of first) (bounds rules) h)
 

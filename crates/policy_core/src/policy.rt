@@ -130,7 +130,12 @@ fn verdict_in(
     requires { length rules.now ≤ 1024 }
     ensures { result ≡ verdict_at (record { rules = rules.now; default_allows = default }) epoch (position (λ rule. stands_at rule moment && matches rule (question_of request.now)) rules.now) }
 {
-    verdict_by(rules, default, first_standing(rules, moment, request), epoch)
+    verdict_by(
+        rules,
+        default,
+        first_standing(rules, moment, request),
+        epoch,
+    )
 }
 
 /// The least bound of these rules after the moment.

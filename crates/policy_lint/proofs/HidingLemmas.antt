@@ -1,5 +1,5 @@
 -- Rules that hide another one take each request from it.
-use Rattle.std.proofs.Common.{◌≡◌, ℕ, ◌+◌, ◌<◌, true, ◌&&◌, List, Some, None, ℤ, ◌≤ℤ◌, ap, ◌∙◌, sym, subst, get_or, slice_get, position, arith, ⊎_elim, true≢false, refl}
+use Rattle.std.proofs.Common.{◌≡◌, ℕ, ◌+◌, ◌<◌, true, ◌&&◌, List, Option, Some, None, option_map, ℤ, ◌≤ℤ◌, ap, ◌∙◌, sym, subst, get_or, slice_get, position, arith, ⊎_elim, true≢false, refl}
 use Rattle.std.specs.Prelude.{int_le}
 use Rattle.std.specs.List.{position_or_len}
 use Rattle.std.proofs.lemmas.Bool.{and_from, and_parts, cases_lt, cond-true, cond-false, lt-ltb, le-ltb}
@@ -12,13 +12,55 @@ use Rattle.policy_core.specs.declared.act.Act.TheVariants.{Publish, PublishExclu
 use Rattle.policy_core.specs.declared.rule.Rule.{Rule}
 use Rattle.policy_core.specs.Act.{act_number, every_act}
 use Rattle.policy_core.specs.Acts.{holds}
+use Rattle.policy_core.specs.Moments.{as_of, at, stands_at}
+use Rattle.policy_core.proofs.AtMoment.{as_of_matches, at_get}
 use Rattle.policy_core.specs.Question.{Question}
 use Rattle.policy_core.specs.Rule.{matches, speaks_of}
 use Rattle.policy_core.specs.RuleList.{Rules}
 use Rattle.policy_core.specs.Rules.{verdict_at, verdict_of}
-use Rattle.policy_lint.specs.Hiding.{ActIsHeld, AreOver, Holds, IsHeld, IsHiddenBy, IsTaken, NeverDecides}
+use Rattle.policy_lint.specs.Hiding.{ActIsHeld, AreOver, Holds, IsHeld, IsHiddenBy, IsTaken, NeverDecides, AreBefore}
 
 -- ---- a hidden rule is no verdict's
+
+-- one of the rules at these places matches the request, whenever it stands
+pub record Takes (rules : List Rule) (places : List ℕ) (question : Question) : Type 0 where
+  pub index : ℕ
+  pub taker : ℕ
+  pub rule : Rule
+  pub listed : slice_get places index ≡ Some taker
+  pub found : slice_get rules taker ≡ Some rule
+  pub is_match : matches rule question ≡ true
+
+-- so it is of whatever the rule at that place matches, and these places are before it
+pub record IsHiddenThen (rules : List Rule) (place : ℕ) (places : List ℕ) : Type 0 where
+  pub before : AreBefore places place
+  pub taken : (question : Question) (rule : Rule) → slice_get rules place ≡ Some rule → matches rule question ≡ true → Takes rules places question
+
+mapped : {A B : Type 0} (f : A → B) (found : Option A) (value : B) → option_map f found ≡ Some value → (of : A) × (found ≡ Some of) × (f of ≡ value)
+mapped f None value is = absurd (cc)
+mapped f (Some of) value is = (of, refl, cc)
+
+takes_then : (policy : Rules) (moment : ℕ) (places : List ℕ) (question : Question) → IsTaken policy.rules places moment question → Takes (at policy moment).rules places question
+takes_then policy moment places question taken = record {
+  index = taken.index;
+  taker = taken.place;
+  rule = as_of moment taken.rule;
+  listed = taken.listed;
+  found = at_get policy moment taken.place ∙ ap (option_map (as_of moment)) taken.found;
+  is_match = as_of_matches moment taken.rule question ∙ and_from _ _ taken.stands taken.is_match;
+}
+
+-- what the policy is at a moment
+hidden_then : (policy : Rules) (moment place : ℕ) (places : List ℕ) → IsHiddenBy policy.rules place places → IsHiddenThen (at policy moment).rules place places
+hidden_then policy moment place places hidden = record {
+  before = hidden.before;
+  taken = λ question rule found is_match.
+      let of = mapped (as_of moment) (slice_get policy.rules place) rule (sym (at_get policy moment place) ∙ found) in
+      let both : (stands_at of.0 moment && matches of.0 question) ≡ true =
+      sym (as_of_matches moment of.0 question) ∙ (ap (λ r. matches r question) of.2 ∙ is_match) in
+      let parts = and_parts (stands_at of.0 moment) (matches of.0 question) both in
+      takes_then policy moment places question (hidden.taken moment question of.0 of.1 parts.0 parts.1);
+}
 
 -- a rule that matches before the first one that does
 none_before : (rules : List Rule) (question : Question) (place : ℕ) (rule : Rule) → slice_get rules place ≡ Some rule →
@@ -28,37 +70,39 @@ none_before rules question place rule stands before is_match =
     sym is_match ∙ ap (λ r. matches r question) (sym (get_or_from_slice_get rules place rule rule stands))
     ∙ fails_before_first (λ r. matches r question) rules place rule before)
 
-taken_before : (rules : List Rule) (question : Question) (at : ℕ) (places : List ℕ) (rule : Rule) → IsHiddenBy rules at places →
-    slice_get rules at ≡ Some rule → at ≡ position_or_len (λ r. matches r question) rules → matches rule question ≡ true → ⊥
-taken_before rules question at places rule hidden stands first is_match =
-    let taken : IsTaken rules places question = hidden.taken question rule stands is_match in
-    let before : taken.place < at = hidden.before taken.index taken.place taken.listed in
-    none_before rules question taken.place taken.rule taken.stands (omega arith) taken.is_match
+taken_before : (rules : List Rule) (question : Question) (place : ℕ) (places : List ℕ) (rule : Rule) → IsHiddenThen rules place places →
+    slice_get rules place ≡ Some rule → place ≡ position_or_len (λ r. matches r question) rules → matches rule question ≡ true → ⊥
+taken_before rules question place places rule hidden stands first is_match =
+    let taken : Takes rules places question = hidden.taken question rule stands is_match in
+    let before : taken.taker < place = hidden.before taken.index taken.taker taken.listed in
+    none_before rules question taken.taker taken.rule taken.found (omega arith) taken.is_match
 
-never_at : (policy : Rules) (at : ℕ) (places : List ℕ) → IsHiddenBy policy.rules at places → (epoch : ℕ) (question : Question) →
-    (verdict_of policy epoch question).rule ≡ Some (at + 1) → ⊥
+never_then : (policy : Rules) (place : ℕ) (places : List ℕ) → IsHiddenThen policy.rules place places → (epoch : ℕ) (question : Question) →
+    (verdict_of policy epoch question).rule ≡ Some (place + 1) → ⊥
 unfolding verdict_of
-never_at policy at places hidden epoch question by =
+never_then policy place places hidden epoch question by =
     ⊎_elim
     (λ found.
     let first : position (λ r. matches r question) policy.rules ≡ Some (position_or_len (λ r. matches r question) policy.rules) =
     cond-true _ _ _ (lt-ltb _ _ found.1) in
-    let decided : Some (position_or_len (λ r. matches r question) policy.rules + 1) ≡ Some (at + 1) =
+    let decided : Some (position_or_len (λ r. matches r question) policy.rules + 1) ≡ Some (place + 1) =
     ap (λ o. (verdict_at policy epoch o).rule) (sym first) ∙ by in
-    let next : position_or_len (λ r. matches r question) policy.rules + 1 ≡ at + 1 = cc in
-    let same : at ≡ position_or_len (λ r. matches r question) policy.rules = omega arith in
-    taken_before policy.rules question at places found.0 hidden
+    let next : position_or_len (λ r. matches r question) policy.rules + 1 ≡ place + 1 = cc in
+    let same : place ≡ position_or_len (λ r. matches r question) policy.rules = omega arith in
+    taken_before policy.rules question place places found.0 hidden
     (ap (slice_get policy.rules) same ∙ found.2)
     same
     (ap (λ r. matches r question) (sym found.3) ∙ passes_at_first (λ r. matches r question) policy.rules found.0 found.1))
     (λ past.
     let none : position (λ r. matches r question) policy.rules ≡ None = cond-false _ _ _ (le-ltb _ _ past.0) in
-    let decided : None ≡ Some (at + 1) = ap (λ o. (verdict_at policy epoch o).rule) (sym none) ∙ by in
+    let decided : None ≡ Some (place + 1) = ap (λ o. (verdict_at policy epoch o).rule) (sym none) ∙ by in
     absurd (cc))
     (slice_get_cases policy.rules (position_or_len (λ r. matches r question) policy.rules)).1
 
-pub never : (policy : Rules) (at : ℕ) (places : List ℕ) → IsHiddenBy policy.rules at places → NeverDecides policy (at + 1)
-never policy at places hidden = record { never = λ epoch question by. never_at policy at places hidden epoch question by }
+pub never : (policy : Rules) (place : ℕ) (places : List ℕ) → IsHiddenBy policy.rules place places → NeverDecides policy (place + 1)
+never policy place places hidden = record {
+  never = λ moment epoch question by. never_then (at policy moment) place places (hidden_then policy moment place places hidden) epoch question by;
+}
 
 -- ---- what is found hides
 
@@ -100,29 +144,30 @@ parts_of rule question is_match =
       high = le_from_test _ _ all.1;
     }
 
-taken_from : (rules : List Rule) (places : List ℕ) (at : ℕ) (question : Question) (rule : Rule) → AreOver rules places at → slice_get rules at ≡ Some rule →
-    Parts rule question → IsHeld rules places question.act question.stream → IsTaken rules places question
-taken_from rules places at question rule over stands parts held =
-    let above = over.over held.index held.place held.listed held.rule rule held.stands stands in
+taken_from : (rules : List Rule) (places : List ℕ) (place moment : ℕ) (question : Question) (rule : Rule) → AreOver rules places place → slice_get rules place ≡ Some rule →
+    stands_at rule moment ≡ true → Parts rule question → IsHeld rules places question.act question.stream → IsTaken rules places moment question
+taken_from rules places place moment question rule over found stands parts held =
+    let above = over.over held.index held.place held.listed held.rule rule held.stands found in
     record {
       index = held.index;
       place = held.place;
       rule = held.rule;
       listed = held.listed;
-      stands = held.stands;
+      found = held.stands;
+      stands = above.moments moment stands;
       is_match =
           over_matches held.rule rule question (above.principals question.principal parts.speaks)
           (above.channels.covered question.channel parts.covered) held.held;
     }
 
-pub hidden_from : (rules : List Rule) (places : List ℕ) (at : ℕ) → AreOver rules places at → ((act : Act) → ActIsHeld rules places at act) →
-    IsHiddenBy rules at places
-hidden_from rules places at over held = record {
+pub hidden_from : (rules : List Rule) (places : List ℕ) (place : ℕ) → AreOver rules places place → ((act : Act) → ActIsHeld rules places place act) →
+    IsHiddenBy rules place places
+hidden_from rules places place over held = record {
   before = over.before;
-  taken = λ question rule stands is_match.
+  taken = λ moment question rule found stands is_match.
       let parts : Parts rule question = parts_of rule question is_match in
-      taken_from rules places at question rule over stands parts
-      (held question.act rule question.stream stands parts.act_held parts.low parts.high);
+      taken_from rules places place moment question rule over found stands parts
+      (held question.act rule question.stream found parts.act_held parts.low parts.high);
 }
 
 -- ---- act by act

@@ -1,5 +1,7 @@
+pub mod EndingLemmas
 pub mod HeldLemmas
 pub mod HidingLemmas
+pub mod LastingLemmas
 pub mod NobodyLemmas
 pub mod OverLemmas
 pub mod PushLemmas

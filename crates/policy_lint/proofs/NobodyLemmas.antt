@@ -1,6 +1,7 @@
 -- What a policy denies to each principal that its rules name, and to a stranger, it denies to everybody.
-use Rattle.std.proofs.Common.{◌≡◌, ℕ, ℤ, ◌+◌, ◌<◌, ◌≤◌, Bool, true, false, cond, not, ◌&&◌, List, [], ◌∷◌, length, refl, sym, ap, ◌∙◌, subst, ⊎_elim, arith, ltb, Option, Some, None}
+use Rattle.std.proofs.Common.{◌≡◌, ℕ, ℤ, ◌+◌, ◌<◌, ◌≤◌, Bool, true, false, cond, not, ◌&&◌, ◌||◌, map, List, [], ◌∷◌, length, refl, sym, ap, ◌∙◌, subst, ⊎_elim, arith, ltb, Option, Some, None}
 use Rattle.std.proofs.lemmas.Bool.{cases_Bool, eqb-true, false≢true, ne_eqb, or_parts}
+use Rattle.std.proofs.lemmas.List.Elements.{All-map}
 use Rattle.std.proofs.lemmas.List.Folds.{Any-from_list_any, list_any_none}
 use Rattle.std.specs.List.{All, position_or_len}
 use Rattle.std.specs.Option.{IfSome, SomeIff}
@@ -12,6 +13,7 @@ use Rattle.policy_core.specs.declared.rule.Principals.{Principals}
 use Rattle.policy_core.specs.declared.rule.Principals.TheVariants.{Any, One}
 use Rattle.policy_core.specs.declared.rule.Rule.{Rule}
 use Rattle.policy_core.specs.Acts.{holds}
+use Rattle.policy_core.specs.Moments.{as_of, at}
 use Rattle.policy_core.specs.Question.{Question}
 use Rattle.policy_core.specs.Rule.{matches, speaks_of}
 use Rattle.policy_core.specs.RuleList.{Rules}
@@ -107,6 +109,28 @@ nobody policy act channel stream stranger all none denied = λ principal.
     (λ (yes : is_named policy.rules principal ≡ true). denied_named policy act channel stream principal all yes)
     (λ (no : is_named policy.rules principal ≡ false). may_alike policy act channel stream principal stranger no none ∙ denied)
     (cases_Bool (is_named policy.rules principal))
+
+-- ---- at a moment
+
+named_then : (rules : List Rule) (moment principal : ℕ) → is_named (map (as_of moment) rules) principal ≡ is_named rules principal
+unfolding as_of
+named_then [] moment principal = refl
+named_then (rule ∷ rules) moment principal = ap (λ (rest : Bool). names principal rule.principals || rest) (named_then rules moment principal)
+
+denied_then : (policy : Rules) (act : Act) (channel : Shape) (stream : ℤ) (rules : List Rule) (moment : ℕ)
+    → All (λ rule. IsDenied policy act channel stream rule.principals) rules → All (λ rule. IsDenied policy act channel stream rule.principals) (map (as_of moment) rules)
+unfolding as_of
+denied_then policy act channel stream rules moment all =
+    All-map (λ rule. IsDenied policy act channel stream rule.principals) (as_of moment) rules all
+
+-- what the policy denies at a moment to those whom its rules name, and to a stranger, it denies to everybody then
+pub nobody_then : (policy : Rules) (moment : ℕ) (act : Act) (channel : Shape) (stream : ℤ) (stranger : ℕ)
+    → All (λ rule. IsDenied (at policy moment) act channel stream rule.principals) policy.rules → is_named policy.rules stranger ≡ false
+    → may (at policy moment) act channel stream stranger ≡ false → NobodyMay (at policy moment) act channel stream
+unfolding at
+nobody_then policy moment act channel stream stranger all none denied =
+    nobody (at policy moment) act channel stream stranger (denied_then (at policy moment) act channel stream policy.rules moment all)
+    (named_then policy.rules moment stranger ∙ none) denied
 
 pub denied_of : (b : Bool) → not b ≡ true → b ≡ false
 denied_of true h = absurd (false≢true h)

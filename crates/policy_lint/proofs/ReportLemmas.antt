@@ -1,5 +1,5 @@
 -- What is reported of the policy that was read.
-use Rattle.std.proofs.Common.{◌≡◌, ◌+◌, subst, List, Result, Ok}
+use Rattle.std.proofs.Common.{◌≡◌, ◌+◌, ℕ, Option, subst, List, Result, Ok}
 use Rattle.std.specs.List.{All}
 use Rattle.std.specs.Result.{IfOk}
 use Rattle.std.specs.declared.alloc.AllocError.{AllocError}
@@ -18,8 +18,8 @@ never_each policy found hidden =
     All-weaker (λ rule. IsHiddenBy policy.rules rule.at rule.by.items) (λ rule. NeverDecides policy (rule.at + 1))
     (λ rule is. never policy rule.at rule.by.items is) found hidden
 
-pub of_read : (meaning : Result Rules PolicyFault) (read policy : Rules) (result : Result Report AllocError) → meaning ≡ Ok read →
-    IfOk result (λ report. IsOf read report) → meaning ≡ Ok policy → IfOk result (λ report. IsOf policy report)
-of_read meaning read policy result is of same =
+pub of_read : (meaning : Result Rules PolicyFault) (read policy : Rules) (moment : ℕ) (soon : Option ℕ) (result : Result Report AllocError) → meaning ≡ Ok read →
+    IfOk result (λ report. IsOf read moment soon report) → meaning ≡ Ok policy → IfOk result (λ report. IsOf policy moment soon report)
+of_read meaning read policy moment soon result is of same =
     let equal : read ≡ policy = cc in
-    subst (λ (p : Rules). IfOk result (λ report. IsOf p report)) equal of
+    subst (λ (p : Rules). IfOk result (λ report. IsOf p moment soon report)) equal of

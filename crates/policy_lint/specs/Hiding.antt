@@ -3,39 +3,44 @@ use Rattle.std.specs.Prelude.{◌≡◌, ◌≢◌, ℕ, ◌<◌, true, ℤ, ◌
 use Rattle.policy_core.specs.declared.act.Act.{Act}
 use Rattle.policy_core.specs.declared.rule.Rule.{Rule}
 use Rattle.policy_core.specs.Acts.{holds}
+use Rattle.policy_core.specs.Moments.{at, stands_at}
 use Rattle.policy_core.specs.Question.{Question}
 use Rattle.policy_core.specs.Rule.{matches, speaks_of}
 use Rattle.policy_core.specs.RuleList.{Rules}
 use Rattle.policy_core.specs.Rules.{verdict_of}
 use Rattle.policy_tools.specs.Wider.{IsWider}
 
--- no request has the rule of this number, counted from 1, as its verdict's rule
+-- at no moment a request has the rule of this number, counted from 1, as its verdict's rule
 pub record NeverDecides (policy : Rules) (number : ℕ) : Type 0 where
-  pub never : (epoch : ℕ) (question : Question) → (verdict_of policy epoch question).rule ≢ Some number
+  pub never : (moment epoch : ℕ) (question : Question) → (verdict_of (at policy moment) epoch question).rule ≢ Some number
 
--- one of the rules at these places, which count from 0, matches the request
-pub record IsTaken (rules : List Rule) (places : List ℕ) (question : Question) : Type 0 where
+-- one of the rules at these places, which count from 0, stands at the moment and matches the request
+pub record IsTaken (rules : List Rule) (places : List ℕ) (moment : ℕ) (question : Question) : Type 0 where
   pub index : ℕ
   pub place : ℕ
   pub rule : Rule
   pub listed : slice_get places index ≡ Some place
-  pub stands : slice_get rules place ≡ Some rule
+  pub found : slice_get rules place ≡ Some rule
+  pub stands : stands_at rule moment ≡ true
   pub is_match : matches rule question ≡ true
 
 -- each of these places is before that one
 abbrev pub AreBefore : List ℕ → ℕ → Type 0
 AreBefore places at = (index place : ℕ) → slice_get places index ≡ Some place → place < at
 
--- the rules at these places stand before the rule at that place, and one of them matches whatever that rule matches
-pub record IsHiddenBy (rules : List Rule) (at : ℕ) (places : List ℕ) : Type 0 where
-  pub before : AreBefore places at
-  pub taken : (question : Question) (rule : Rule) → slice_get rules at ≡ Some rule → matches rule question ≡ true → IsTaken rules places question
+-- the rules at these places come before the rule at that place, and at each moment at which it stands one of them stands and
+-- matches whatever it matches
+pub record IsHiddenBy (rules : List Rule) (place : ℕ) (places : List ℕ) : Type 0 where
+  pub before : AreBefore places place
+  pub taken : (moment : ℕ) (question : Question) (rule : Rule) → slice_get rules place ≡ Some rule → stands_at rule moment ≡ true →
+      matches rule question ≡ true → IsTaken rules places moment question
 
 -- ---- how it is found
 
--- everybody of whom the narrow rule speaks is spoken of by the wide one, and each channel that the narrow one's pattern
--- covers is covered by the wide one's
+-- the wide rule stands whenever the narrow one does, everybody of whom the narrow one speaks is spoken of by the wide one, and
+-- each channel that the narrow one's pattern covers is covered by the wide one's
 pub record IsOver (wide narrow : Rule) : Type 0 where
+  pub moments : (moment : ℕ) → stands_at narrow moment ≡ true → stands_at wide moment ≡ true
   pub principals : (principal : ℕ) → speaks_of narrow.principals principal ≡ true → speaks_of wide.principals principal ≡ true
   pub channels : IsWider wide.channel narrow.channel
 

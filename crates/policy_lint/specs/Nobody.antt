@@ -9,6 +9,7 @@ use Rattle.policy_core.specs.declared.act.Act.TheVariants.{Publish, PublishExclu
 use Rattle.policy_core.specs.declared.rule.Principals.{Principals}
 use Rattle.policy_core.specs.declared.rule.Principals.TheVariants.{Any, One}
 use Rattle.policy_core.specs.declared.rule.Rule.{Rule}
+use Rattle.policy_core.specs.Moments.{at}
 use Rattle.policy_core.specs.RuleList.{Rules}
 use Rattle.policy_core.specs.Rules.{verdict_of}
 use Rattle.policy_lint.specs.declared.unmet.Unmet.{Unmet}
@@ -56,5 +57,6 @@ pub record IsUnmetAt (policy : Rules) (act : Act) (principal : ℕ) (channel : S
   pub granted : may policy act channel stream principal ≡ true
   pub alone : IsAlone policy act channel stream
 
+-- so it is at the moment that is named
 abbrev pub IsUnmet : Rules → Unmet → Type 0
-IsUnmet policy unmet = IsUnmetAt policy unmet.act unmet.principal unmet.channel unmet.stream
+IsUnmet policy unmet = IsUnmetAt (at policy unmet.moment) unmet.act unmet.principal unmet.channel unmet.stream

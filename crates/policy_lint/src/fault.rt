@@ -15,6 +15,10 @@ pub enum Cause {
     Missing,
     /// The key has no meaning there; perhaps this one is meant.
     UnknownKey(Option<&'static str>),
+    /// The key has a meaning in version 2 of the language alone.
+    LaterKey,
+    /// The value is a date, and its nanoseconds since 1970 are wanted, which are these.
+    Date(u64),
     /// This is wanted in place of the value.
     Wanted(&'static str),
     /// There is no principal of that name.
@@ -45,6 +49,13 @@ impl fmt::Display for Cause {
             Cause::UnknownKey(meant) => {
                 f.write_str("no such key")?;
                 write_meant(f, *meant)
+            }
+            Cause::LaterKey => f.write_str("no such key in version 1; is `version = 2` meant?"),
+            Cause::Date(moment) => {
+                write!(
+                    f,
+                    "wanted nanoseconds since 1970; of that date they are {moment}"
+                )
             }
             Cause::Wanted(wanted) => write!(f, "wanted {wanted}"),
             Cause::UnknownPrincipal => f.write_str("no such principal"),

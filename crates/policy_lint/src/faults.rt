@@ -5,6 +5,7 @@ use crate::nearest::nearest;
 use crate::places::{Place, Places, place_after, places_in};
 use byte_strings::Text;
 use channel_uri::Pattern;
+use moment_words::{MomentFault, moment_of};
 use policy_core::Act;
 use policy_text::{Names, PolicyFault};
 use std::alloc::{AllocError, Global};
@@ -18,7 +19,7 @@ const DOCUMENT: [&str; 3] = ["version", "default", "rule"];
 /// The keys of a rule.
 const RULE: [&str; 6] = ["name", "principal", "act", "channel", "stream", "allow"];
 
-/// The keys of a rule of version 2.
+/// The keys of a rule in version 2.
 const TIMED: [&str; 8] = [
     "name",
     "principal",
@@ -131,8 +132,12 @@ impl Found {
         for (key, value) in part.table.iter() {
             let key = key.as_str();
             if !words.iter().any(|word| *word == key) {
-                let meant = nearest(alloc, key, words)?;
-                self.take(alloc, part, key, Some(value), Cause::UnknownKey(meant))?;
+                let cause = if part.number > 0 && (key == "from" || key == "until") {
+                    Cause::LaterKey
+                } else {
+                    Cause::UnknownKey(nearest(alloc, key, words)?)
+                };
+                self.take(alloc, part, key, Some(value), cause)?;
             }
         }
         Ok(())
@@ -233,8 +238,8 @@ impl Found {
         match value.as_integer() {
             Some(bound) if 0 <= bound => Ok(Some(bound)),
             _ => {
-                let wanted = Cause::Wanted("a moment in nanoseconds, 0 or more");
-                self.wrong(alloc, part, key, wanted)?;
+                let cause = no_moment(alloc, value)?;
+                self.wrong(alloc, part, key, cause)?;
                 Ok(None)
             }
         }
@@ -261,7 +266,6 @@ impl Found {
     ) -> Result<(), AllocError> {
         if is_timed {
             self.keys(alloc, part, &TIMED)?;
-            self.moments(alloc, part)?;
         } else {
             self.keys(alloc, part, &RULE)?;
         }
@@ -273,6 +277,9 @@ impl Found {
         self.acts(alloc, part)?;
         self.channel(alloc, part)?;
         self.stream(alloc, part)?;
+        if is_timed {
+            self.moments(alloc, part)?;
+        }
         match part.value("allow") {
             Some(Value::Boolean(_)) => Ok(()),
             _ => self.wrong(alloc, part, "allow", Cause::Wanted("true or false")),
@@ -308,10 +315,10 @@ impl Found {
 
     fn document(&mut self, alloc: Global, table: &Table, names: &Names) -> Result<(), AllocError> {
         let part = Part { number: 0, table };
-        let mut is_timed = false;
+        let mut is_timed = true;
         match part.value("version") {
-            Some(Value::Integer(1)) => {}
-            Some(Value::Integer(2)) => is_timed = true,
+            Some(Value::Integer(1)) => is_timed = false,
+            Some(Value::Integer(2)) => {}
             _ => self.wrong(alloc, part, "version", Cause::Wanted("1 or 2"))?,
         }
         self.keys(alloc, part, &DOCUMENT)?;
@@ -333,6 +340,19 @@ impl Found {
             ),
         }
     }
+}
+
+/// What is wrong with a value that is to be a moment: where it is a date, its nanoseconds are meant.
+fn no_moment(alloc: Global, value: &Value) -> Result<Cause, AllocError> {
+    let meant = match value {
+        Value::String(date) => moment_of(date.as_str()),
+        Value::Datetime(_) => moment_of(format!(in alloc; "{value}")?.as_str()),
+        _ => Err(MomentFault::NoMoment),
+    };
+    Ok(match meant {
+        Ok(moment) => Cause::Date(moment),
+        Err(_) => Cause::Wanted("a moment in nanoseconds since 1970, 0 or more"),
+    })
 }
 
 /// The act whose name is nearest.

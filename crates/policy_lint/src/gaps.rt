@@ -1,6 +1,6 @@
 ghost use Rattle.std.specs.Prelude.{◌<◌, length};
 
-use crate::asking::{Asked, asker, stream_in};
+use crate::asking::{Asked, asker, moment_for, stream_in};
 use crate::examples::{Spoken, example, learning_example, spoken_at};
 use crate::warning::Gap;
 use byte_strings::Text;
@@ -92,13 +92,15 @@ fn tried(alloc: Global, own: Spoken<'_>, among: Among) -> Result<Option<Channel>
     }
 }
 
-/// What a rule that grants something leaves out on a channel. `name` is what the text calls its principal.
+/// What a rule that grants something leaves out on a channel, at `moment` or once it stands. `name` is what the text calls its
+/// principal.
 fn gaps_on(
     alloc: Global,
     source: &Source,
     at: usize,
     name: &str,
     channel: &Channel,
+    moment: u64,
 ) -> Result<Vec<Gap>, AllocError>
     requires { at < length source.now.policy.rules }
 {
@@ -109,6 +111,7 @@ fn gaps_on(
     };
     let asked = Asked {
         policy: source.policy(),
+        moment: moment_for(rule, moment),
         principal,
         channel,
         stream: stream_in(rule.low, rule.high),
@@ -120,6 +123,7 @@ fn gaps_on(
             needed,
             channel: channel.canonical(alloc)?,
             stream: asked.stream,
+            moment: asked.moment,
             verdict,
         })?;
     }
@@ -133,13 +137,14 @@ pub(crate) fn gaps_of(
     source: &Source,
     at: usize,
     name: &str,
+    moment: u64,
 ) -> Result<Vec<Gap>, AllocError>
     requires { at < length source.now.policy.rules }
 {
     let own = spoken_at(source, at);
     for among in [Among::Udp, Among::Ipc, Among::Learning] {
         if let Some(channel) = tried(alloc, own, among)? {
-            let gaps = gaps_on(alloc, source, at, name, &channel)?;
+            let gaps = gaps_on(alloc, source, at, name, &channel, moment)?;
             if !gaps.is_empty() {
                 return Ok(gaps);
             }

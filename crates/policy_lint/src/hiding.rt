@@ -1,5 +1,4 @@
 ghost use Rattle.policy_core.specs.Act.{act_number};
-ghost use Rattle.policy_core.specs.Moments.{stands_at};
 ghost use Rattle.policy_core.specs.Rule.{speaks_of};
 ghost use Rattle.policy_core.specs.RuleList.{Rules};
 ghost use Rattle.policy_core.specs.declared.act.Act.{Act};
@@ -9,6 +8,7 @@ ghost use Rattle.policy_lint.specs.Hiding.{ActIsHeld, AreOver, Holds, IsHeld, Is
 ghost use Rattle.std.specs.List.{All};
 ghost use Rattle.std.specs.Prelude.{◌≡◌, ◌+◌, ◌<◌, ◌≤ℤ◌, ◌<ℤ◌, ℕ, ℤ, List, IfOk, OnOk, Some, length, slice_get, true};
 
+use crate::lasting::outlasts;
 use policy_core::{Act, Principals, Rule};
 use policy_tools::{Source, is_wider};
 use std::alloc::{AllocError, Global};
@@ -33,23 +33,6 @@ fn includes(wide: Principals, narrow: Principals) -> bool
             Principals::One(other) => one == other,
         },
     }
-}
-
-/// Whether the wide rule stands at each moment at which the narrow one does.
-fn outlasts(wide: &Rule, narrow: &Rule) -> bool
-    ensures { result ≡ true → (moment : ℕ) → stands_at narrow.now moment ≡ true → stands_at wide.now moment ≡ true }
-{
-    let begins = match (wide.from, narrow.from) {
-        (None, _) => true,
-        (Some(_), None) => false,
-        (Some(from), Some(other)) => from <= other,
-    };
-    let ends = match (wide.until, narrow.until) {
-        (None, _) => true,
-        (Some(_), None) => false,
-        (Some(until), Some(other)) => other <= until,
-    };
-    begins && ends
 }
 
 /// Whether the rule at `place` is found to be over the one at `at`: acts and streams apart, it stands whenever that one does

@@ -6,12 +6,14 @@
 
 mod acts;
 mod asking;
+mod ending;
 mod examples;
 mod fault;
 mod faults;
 mod gaps;
 mod hiding;
 mod keys;
+mod lasting;
 mod nearest;
 mod pairs;
 mod places;
@@ -20,6 +22,7 @@ mod unmet;
 mod warning;
 mod warnings;
 
+pub use ending::{Ended, Ends};
 pub use fault::{Cause, Fault};
 pub use hiding::{Hidden, hidden_in, hidden_rules_never_decide};
 pub use places::{Place, Places, place_after, places_in};

@@ -1,17 +1,22 @@
 ghost use Rattle.policy_core.specs.RuleList.{Rules};
+ghost use Rattle.policy_lint.specs.Ending.{IsGone, ended_from, ending_of, is_among};
 ghost use Rattle.policy_lint.specs.Report.{IsOf, is_clean};
+ghost use Rattle.policy_lint.specs.declared.ending.Ends.TheVariants.{Past};
 ghost use Rattle.policy_query.specs.Deciding.{policy_in};
 ghost use Rattle.policy_text.specs.declared.fault.PolicyFault.{PolicyFault};
+ghost use Rattle.std.specs.List.{All};
 ghost use Rattle.std.specs.Prelude.{◌≡◌, ◌<◌, Err, IfOk, Ok, length};
 
+use crate::ending::{Ended, Ends, ended_in};
 use crate::fault::Fault;
 use crate::faults::faults_of;
 use crate::hiding::{Hidden, hidden_in};
 use crate::places::{Place, Places, places_in};
 use crate::unmet::{Unmet, unmet_in};
-use crate::warning::Warning;
+use crate::warning::{Doubt, Warning};
 use crate::warnings::warnings_of;
 use byte_strings::Text;
+use moment_words::date_text;
 use policy_text::{Names, PolicyFault};
 use policy_tools::Source;
 use std::alloc::{AllocError, Global};
@@ -22,6 +27,8 @@ use std::str;
 struct Named {
     name: Text,
     place: Place,
+    /// Where its end stands.
+    until: Place,
 }
 
 /// What is found in a policy's text.
@@ -33,9 +40,15 @@ pub struct Report {
     pub hidden: Vec<Hidden>,
     /// The rules that grant one end of what nobody may be the other end of, in their order.
     pub unmet: Vec<Unmet>,
+    /// The rules that are over, in their order.
+    pub over: Vec<Ended>,
+    /// The rules that end soon, in their order.
+    pub ending: Vec<Ended>,
     /// The other warnings, in the order of their rules.
     pub warnings: Vec<Warning>,
     rules: Vec<Named>,
+    /// The moment at which the policy was looked at, in nanoseconds since 1970.
+    moment: u64,
 }
 
 /// What the rules are called, and where they stand.
@@ -47,28 +60,62 @@ fn rules_of(alloc: Global, source: &Source, places: &Places) -> Result<Vec<Named
         rules.push(Named {
             name: Text::new(alloc, rule.name.as_str())?,
             place: places.of(number, ""),
+            until: places.of(number, "until"),
         })?;
     }
     Ok(rules)
 }
 
+/// The rules that end within a period from a moment, if one is given.
+fn ending_in(
+    alloc: Global,
+    source: &Source,
+    moment: u64,
+    soon: Option<u64>,
+) -> Result<Vec<Ended>, AllocError>
+    ensures exact { IfOk result (λ found. found.items ≡ ending_of moment soon source.now.policy.rules) }
+    ensures ends { IfOk result (λ found. All (λ ended. IsGone source.now.policy.rules ended.until ended.at) found.items) }
+{
+    match soon {
+        Some(period) => ended_in(alloc, source.rules(), Ends::Soon(moment, period)),
+        None => Ok(Vec::new(alloc)),
+    }
+}
+
+/// The rules that are over at a moment.
+fn over_in(alloc: Global, source: &Source, moment: u64) -> Result<Vec<Ended>, AllocError>
+    ensures exact { IfOk result (λ found. found.items ≡ ended_from 0 (is_among (Past moment)) source.now.policy.rules) }
+    ensures gone { IfOk result (λ found. All (λ ended. IsGone source.now.policy.rules moment ended.at) found.items) }
+{
+    ended_in(alloc, source.rules(), Ends::Past(moment))
+}
+
 /// What is found in the text of a policy.
-fn warned(alloc: Global, source: &Source, text: &str) -> Result<Report, AllocError>
-    ensures { IfOk result (λ report. IsOf source.now.policy report) }
+fn warned(
+    alloc: Global,
+    source: &Source,
+    text: &str,
+    moment: u64,
+    soon: Option<u64>,
+) -> Result<Report, AllocError>
+    ensures { IfOk result (λ report. IsOf source.now.policy moment soon report) }
 {
     let Ok(table) = toml::table_from_str(alloc, text) else {
         return Err(AllocError);
     };
     let places = places_in(alloc, text)?;
     let rules = rules_of(alloc, source, &places)?;
-    let unmet = unmet_in(alloc, source, &places, &table)?;
-    let warnings = warnings_of(alloc, source, places, &table)?;
+    let unmet = unmet_in(alloc, source, &places, &table, moment)?;
+    let warnings = warnings_of(alloc, source, places, &table, moment)?;
     Ok(Report {
         faults: Vec::new(alloc),
         hidden: hidden_in(alloc, source)?,
         unmet,
+        over: over_in(alloc, source, moment)?,
+        ending: ending_in(alloc, source, moment, soon)?,
         warnings,
         rules,
+        moment,
     })
 }
 
@@ -85,20 +132,30 @@ fn refused(
         faults: faults_of(alloc, bytes, names, fault)?,
         hidden: Vec::new(alloc),
         unmet: Vec::new(alloc),
+        over: Vec::new(alloc),
+        ending: Vec::new(alloc),
         warnings: Vec::new(alloc),
         rules: Vec::new(alloc),
+        moment: 0,
     })
 }
 
-/// Looks at the bytes of a policy's file: for its faults, where it is no policy, and else for what is likely not meant.
-/// There is a fault exactly where [`policy_query::policy_in`] refuses them.
-pub fn lint(alloc: Global, bytes: &[u8], names: &Names) -> Result<Report, AllocError>
-    ensures accepted { (policy : Rules) → policy_in names.now bytes.now ≡ Ok policy → IfOk result (λ report. IsOf policy report) }
+/// Looks at the bytes of a policy's file: for its faults, where it is no policy, and else for what is likely not meant, at a
+/// moment in nanoseconds since 1970: for rules that are over then and, if `soon` is given, for those that end within so many
+/// nanoseconds from it. There is a fault exactly where [`policy_query::policy_in`] refuses the bytes.
+pub fn lint(
+    alloc: Global,
+    bytes: &[u8],
+    names: &Names,
+    moment: u64,
+    soon: Option<u64>,
+) -> Result<Report, AllocError>
+    ensures accepted { (policy : Rules) → policy_in names.now bytes.now ≡ Ok policy → IfOk result (λ report. IsOf policy moment soon report) }
     ensures refused { (fault : PolicyFault) → policy_in names.now bytes.now ≡ Err fault → IfOk result (λ report. 0 < length report.faults.items) }
 {
     match Source::read(alloc, bytes, names) {
         Ok(source) => match str::from_utf8(bytes) {
-            Ok(text) => warned(alloc, &source, text),
+            Ok(text) => warned(alloc, &source, text, moment, soon),
             Err(_) => Err(AllocError),
         },
         Err(PolicyFault::NoMemory) => Err(AllocError),
@@ -129,6 +186,8 @@ impl Report {
         self.hidden
             .len()
             .saturating_add(self.unmet.len())
+            .saturating_add(self.over.len())
+            .saturating_add(self.ending.len())
             .saturating_add(own)
     }
 
@@ -138,7 +197,11 @@ impl Report {
     {
         self.faults.is_empty()
             && (!strict
-                || self.hidden.is_empty() && self.unmet.is_empty() && self.warnings.is_empty())
+                || self.hidden.is_empty()
+                    && self.unmet.is_empty()
+                    && self.over.is_empty()
+                    && self.ending.is_empty()
+                    && self.warnings.is_empty())
     }
 
     /// Appends a rule's number and name.
@@ -217,6 +280,38 @@ impl Report {
         Ok(())
     }
 
+    /// Appends when it is so, where that is after the moment at which the policy was looked at.
+    fn push_when(&self, alloc: Global, text: &mut String, moment: u64) -> Result<(), AllocError> {
+        if moment <= self.moment {
+            return Ok(());
+        }
+        let date = date_text(alloc, moment)?;
+        text.push_str(format!(in alloc; "at {date} ")?.as_str())
+    }
+
+    /// Appends the warning that a rule has an end.
+    fn push_ended(
+        &self,
+        alloc: Global,
+        text: &mut String,
+        file: &str,
+        at: usize,
+        of: (&[Ended], &str),
+    ) -> Result<(), AllocError> {
+        let (found, what) = of;
+        let Some(rule) = self.rules.get(at) else {
+            return Ok(());
+        };
+        for ended in found {
+            if ended.at == at {
+                self.push_head(alloc, text, file, (at, rule.until))?;
+                let date = date_text(alloc, ended.until)?;
+                text.push_str(format!(in alloc; "{what} {date}\n")?.as_str())?;
+            }
+        }
+        Ok(())
+    }
+
     /// Appends the warning that nobody may be the other end of what a rule grants.
     fn push_unmet(
         &self,
@@ -230,6 +325,7 @@ impl Report {
                 self.push_head(alloc, text, file, (at, unmet.place))?;
                 let channel = unmet.channel.canonical(alloc)?;
                 let stream = unmet.stream;
+                self.push_when(alloc, text, unmet.moment)?;
                 text.push_str(format!(in alloc;
                     "{unmet}: on {channel}, stream {stream}\n"
                 )?.as_str())?;
@@ -250,6 +346,9 @@ impl Report {
             if warning.at == at {
                 self.push_head(alloc, text, file, (at, warning.place))?;
                 let doubt = &warning.doubt;
+                if let Doubt::Gap(gap) = doubt {
+                    self.push_when(alloc, text, gap.moment)?;
+                }
                 text.push_str(format!(in alloc; "{doubt}\n")?.as_str())?;
             }
         }
@@ -271,6 +370,20 @@ impl Report {
         self.push_faults(alloc, &mut text, file)?;
         for at in 0..self.rules.len() {
             self.push_hidden(alloc, &mut text, file, at)?;
+            self.push_ended(
+                alloc,
+                &mut text,
+                file,
+                at,
+                (self.over.as_slice(), "is over since"),
+            )?;
+            self.push_ended(
+                alloc,
+                &mut text,
+                file,
+                at,
+                (self.ending.as_slice(), "ends at"),
+            )?;
             self.push_unmet(alloc, &mut text, file, at)?;
             self.push_warnings(alloc, &mut text, file, at)?;
         }

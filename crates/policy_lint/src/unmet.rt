@@ -1,11 +1,12 @@
 ghost use Rattle.channel_uri.specs.Keys.{value_at};
 ghost use Rattle.channel_uri.specs.Place.{is_text};
+ghost use Rattle.policy_core.specs.Moments.{at as policy_at};
 ghost use Rattle.policy_core.specs.RuleList.{Rules};
 ghost use Rattle.policy_lint.specs.Nobody.{IsAlone, IsUnmet, may};
 ghost use Rattle.std.specs.List.{All};
 ghost use Rattle.std.specs.Prelude.{◌≡◌, ◌<◌, IfOk, IfSome, OnOk, codes, length, true};
 
-use crate::asking::{Asked, asker, nobody_may, stream_in};
+use crate::asking::{Asked, asker, moment_for, nobody_may, stream_in};
 use crate::examples::{example, learning_example, spoken_at};
 use crate::places::{Place, Places};
 use crate::warnings::principal_at;
@@ -33,18 +34,20 @@ pub struct Unmet {
     /// On this channel.
     pub channel: Channel,
     pub stream: i32,
+    /// At this moment, in nanoseconds since 1970.
+    pub moment: u64,
 }
 
-/// Whether whoever does the act there is alone: nobody may join the publication, or publish what is to be joined.
-fn is_alone(policy: &Policy, act: Act, channel: &Channel, stream: i32) -> bool
-    ensures { result ≡ true → IsAlone policy.now act channel.now stream }
+/// Whether whoever does the act there at that moment is alone: nobody may join the publication, or publish what is to be joined.
+fn is_alone(policy: &Policy, moment: u64, act: Act, channel: &Channel, stream: i32) -> bool
+    ensures { result ≡ true → IsAlone (policy_at policy.now moment) act channel.now stream }
 {
     match act {
-        Act::Publish => nobody_may(policy, Act::Join, channel, stream),
-        Act::PublishExclusive => nobody_may(policy, Act::Join, channel, stream),
+        Act::Publish => nobody_may(policy, moment, Act::Join, channel, stream),
+        Act::PublishExclusive => nobody_may(policy, moment, Act::Join, channel, stream),
         Act::Join => {
-            nobody_may(policy, Act::Publish, channel, stream)
-                && nobody_may(policy, Act::PublishExclusive, channel, stream)
+            nobody_may(policy, moment, Act::Publish, channel, stream)
+                && nobody_may(policy, moment, Act::PublishExclusive, channel, stream)
         }
         _ => false,
     }
@@ -76,6 +79,8 @@ struct End<'a> {
     act: Act,
     /// Who asks.
     principal: u32,
+    /// When, in nanoseconds since 1970.
+    moment: u64,
 }
 
 /// A stream of both rules.
@@ -105,12 +110,13 @@ impl End<'_> {
         }
     }
 
-    /// Whether the rule itself grants the act there.
+    /// Whether the rule itself grants the act there then.
     fn is_granted(&self, channel: &Channel, stream: i32) -> bool
-        ensures { result ≡ true → may self.now.source.now.policy self.now.act channel.now stream self.now.principal ≡ true }
+        ensures { result ≡ true → may (policy_at self.now.source.now.policy self.now.moment) self.now.act channel.now stream self.now.principal ≡ true }
     {
         let asked = Asked {
             policy: self.source.policy(),
+            moment: self.moment,
             principal: self.principal,
             channel,
             stream,
@@ -118,7 +124,8 @@ impl End<'_> {
         asked.is_granted_by(self.at, self.act)
     }
 
-    /// Whether both ends come together by the rule and the one at `beside`, on a channel and a stream of both.
+    /// Whether both ends come together by the rule and the one at `beside`, on a channel and a stream of both, once both
+    /// stand.
     fn meets(&self, alloc: Global, beside: usize) -> Result<bool, AllocError>
         requires own { self.now.at < length self.now.source.now.policy.rules }
         requires other { beside < length self.now.source.now.policy.rules }
@@ -140,14 +147,17 @@ impl End<'_> {
             return Ok(false);
         };
         let policy = self.source.policy();
+        let moment = moment_for(other, self.moment);
         let asked = Asked {
             policy,
+            moment,
             principal: self.principal,
             channel: &channel,
             stream,
         };
         let across = Asked {
             policy,
+            moment,
             principal,
             channel: &channel,
             stream,
@@ -181,7 +191,13 @@ impl End<'_> {
         if !self.is_granted(&channel, stream) {
             return Ok(None);
         }
-        if !is_alone(self.source.policy(), self.act, &channel, stream) {
+        if !is_alone(
+            self.source.policy(),
+            self.moment,
+            self.act,
+            &channel,
+            stream,
+        ) {
             return Ok(None);
         }
         if self.is_met(alloc)? {
@@ -195,17 +211,20 @@ impl End<'_> {
             act: self.act,
             channel,
             stream,
+            moment: self.moment,
         }))
     }
 }
 
-/// What is found of a rule: of its first act that is granted so. `name` is what the text calls its principal.
+/// What is found of a rule, at `moment` or once it stands: of its first act that is granted so. `name` is what the text calls
+/// its principal.
 fn unmet_at(
     alloc: Global,
     source: &Source,
     at: usize,
     name: &str,
     place: Place,
+    moment: u64,
 ) -> Result<Option<Unmet>, AllocError>
     requires { at < length source.now.policy.rules }
     ensures { IfOk result (λ found. IfSome found (IsUnmet source.now.policy)) }
@@ -221,6 +240,7 @@ fn unmet_at(
                 at,
                 act,
                 principal,
+                moment: moment_for(rule, moment),
             };
             let found = end.unmet(alloc, name, place)?;
             if found.is_some() {
@@ -238,24 +258,26 @@ fn put_unmet(
     at: usize,
     name: &str,
     place: Place,
+    moment: u64,
     found: &mut Vec<Unmet>,
 ) -> Result<(), AllocError>
     requires { at < length source.now.policy.rules }
     ensures { All (IsUnmet source.now.policy) found.old.items → OnOk result (All (IsUnmet source.now.policy) found.new.items) }
 {
-    let Some(unmet) = unmet_at(alloc, source, at, name, place)? else {
+    let Some(unmet) = unmet_at(alloc, source, at, name, place, moment)? else {
         return Ok(());
     };
     found.push(unmet)?;
     Ok(())
 }
 
-/// What is found of the rules of a policy, which the table is the document of, in their order.
+/// What is found of the rules of a policy at a moment, which the table is the document of, in their order.
 pub(crate) fn unmet_in(
     alloc: Global,
     source: &Source,
     places: &Places,
     table: &Table,
+    moment: u64,
 ) -> Result<Vec<Unmet>, AllocError>
     ensures { IfOk result (λ found. All (IsUnmet source.now.policy) found.items) }
 {
@@ -263,7 +285,7 @@ pub(crate) fn unmet_in(
     for at in 0..source.rules().len() {
         let name = principal_at(table, at).unwrap_or("*");
         let place = places.of(at.saturating_add(1), "act");
-        put_unmet(alloc, source, at, name, place, &mut found)?;
+        put_unmet(alloc, source, at, name, place, moment, &mut found)?;
     }
     Ok(found)
 }

@@ -16,6 +16,8 @@ pub struct Gap {
     /// On this channel.
     pub channel: Text,
     pub stream: i32,
+    /// At this moment, in nanoseconds since 1970.
+    pub moment: u64,
     /// Why it is not.
     pub verdict: Verdict,
 }
@@ -43,6 +45,8 @@ pub enum Doubt {
     SameName(usize),
     /// The rule allows everybody everything.
     AllowsAll,
+    /// The rule does so as long as it stands.
+    AllowsAllThen,
     /// There is no rule, and the default allows everything.
     AllowsByDefault,
     /// The rule grants counters of this type, one of those under which the driver's own are listed.
@@ -128,6 +132,9 @@ impl fmt::Display for Doubt {
             }
             Doubt::AllowsAll => f.write_str(
                 "everybody may do everything: no later rule and no default decides",
+            ),
+            Doubt::AllowsAllThen => f.write_str(
+                "everybody may do everything while it stands: no later rule and no default decides then",
             ),
             Doubt::AllowsByDefault => {
                 f.write_str("there is no rule, and the default allows everybody everything")

@@ -16,6 +16,8 @@ use toml::Table;
 #[derive(Drop)]
 pub(crate) struct Warned {
     places: Places,
+    /// The moment at which the policy is looked at, in nanoseconds since 1970.
+    moment: u64,
     warnings: Vec<Warning>,
 }
 
@@ -133,7 +135,7 @@ impl Warned {
             self.keys(alloc, looked, *media, keys)?;
         }
         self.types(looked)?;
-        for gap in gaps_of(alloc, source, looked.at, principal)? {
+        for gap in gaps_of(alloc, source, looked.at, principal, self.moment)? {
             self.take(looked.at, "act", Doubt::Gap(gap))?;
         }
         Ok(())
@@ -148,10 +150,16 @@ impl Warned {
         if let Some(at) = earlier.position(|rule| rule.name.as_str() == name) {
             self.take(looked.at, "name", Doubt::SameName(at))?;
         }
-        if is_everything(looked.rule) {
-            self.take(looked.at, "allow", Doubt::AllowsAll)?;
+        if !is_everything(looked.rule) {
+            return Ok(());
         }
-        Ok(())
+        let is_timed = looked.rule.from.is_some() || looked.rule.until.is_some();
+        let doubt = if is_timed {
+            Doubt::AllowsAllThen
+        } else {
+            Doubt::AllowsAll
+        };
+        self.take(looked.at, "allow", doubt)
     }
 }
 
@@ -170,15 +178,18 @@ pub(crate) fn principal_at(table: &Table, at: usize) -> Option<&str> {
     rules.get(at)?.as_table()?.get("principal")?.as_str()
 }
 
-/// The warnings about the rules of a policy, which the table is the document of, but for those about hidden rules.
+/// The warnings about the rules of a policy at a moment, which the table is the document of, but for those about hidden rules,
+/// and about rules that end.
 pub(crate) fn warnings_of(
     alloc: Global,
     source: &Source,
     places: Places,
     table: &Table,
+    moment: u64,
 ) -> Result<Vec<Warning>, AllocError> {
     let mut warned = Warned {
         places,
+        moment,
         warnings: Vec::new(alloc),
     };
     for at in 0..source.rules().len() {

@@ -35,12 +35,7 @@ fn default_of(table: &Table) -> Result<bool, PolicyFault>
 }
 
 /// The rule of this number that a value is.
-fn rule_at(
-    version: Version,
-    number: u32,
-    value: &Value,
-    names: &Names,
-) -> Result<Rule, PolicyFault>
+fn rule_at(version: Version, number: u32, value: &Value, names: &Names) -> Result<Rule, PolicyFault>
     ensures { Equals (λ rule. rule) result (rule_at names.now version number (view value.now)) }
 {
     match value.as_table() {

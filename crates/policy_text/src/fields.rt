@@ -246,10 +246,7 @@ fn span_of(
 
 /// The moments at which a rule stands: the first one, and the one from which on it stands no more; each where the rule
 /// names it.
-fn moments_of(
-    number: u32,
-    table: &Table,
-) -> Result<(Option<u64>, Option<u64>), PolicyFault>
+fn moments_of(number: u32, table: &Table) -> Result<(Option<u64>, Option<u64>), PolicyFault>
     ensures { Equals (λ span. span) result (moments_of number (table_view table.now)) }
 {
     let from = bound_at(number, Field::From, table, "from")?;

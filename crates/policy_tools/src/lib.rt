@@ -23,4 +23,4 @@ pub use reasons::explained;
 pub use showing::show;
 pub use source::Source;
 pub use wider::{first_piece, is_wider, key_of, pairs_in, value_wider};
-pub use words::{acts_text, plain, principals_text, streams_text, word_of};
+pub use words::{acts_text, moments_text, plain, principals_text, streams_text, word_of};

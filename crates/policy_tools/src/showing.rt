@@ -40,7 +40,8 @@ fn rule_line(
     line.cells.push(plain(alloc, pattern)?)?;
     line.cells.push(streams_text(alloc, rule.low, rule.high)?)?;
     if is_timed {
-        line.cells.push(moments_text(alloc, rule.from, rule.until)?)?;
+        line.cells
+            .push(moments_text(alloc, rule.from, rule.until)?)?;
     }
     line.cells.push(Text::new(alloc, word_of(rule.allow))?)?;
     Ok(line)

@@ -1,7 +1,11 @@
 //! The parts of a rule, in words.
 
+ghost use Rattle.policy_tools.specs.Showing.{AreMoments, IsBetween, IsFrom, IsUntil};
+ghost use Rattle.std.specs.Prelude.{IfOk};
+
 use crate::directory::Directory;
 use byte_strings::Text;
+use moment_words::date_text;
 use policy_core::{Act, Acts, Principals};
 use std::alloc::{AllocError, Global};
 
@@ -73,19 +77,50 @@ pub fn streams_text(alloc: Global, low: i32, high: i32) -> Result<Text, AllocErr
     Ok(Text::from(text))
 }
 
-/// The moments from `from` to before `until`, as `1000..2000`, `1000..` or `..2000`; `always` where there is no bound.
+/// The words for a first moment.
+fn from_text(alloc: Global, from: u64) -> Result<Text, AllocError>
+    ensures { IfOk result (λ text. IsFrom from text) }
+{
+    let date = date_text(alloc, from)?;
+    Ok(Text::from(format!(in alloc; "from {date}")?))
+}
+
+/// The words for an end.
+fn until_text(alloc: Global, until: u64) -> Result<Text, AllocError>
+    ensures { IfOk result (λ text. IsUntil until text) }
+{
+    let date = date_text(alloc, until)?;
+    Ok(Text::from(format!(in alloc; "until {date}")?))
+}
+
+/// The words for both.
+fn between_text(alloc: Global, from: u64, until: u64) -> Result<Text, AllocError>
+    ensures { IfOk result (λ text. IsBetween from until text) }
+{
+    let first = from_text(alloc, from)?;
+    let last = until_text(alloc, until)?;
+    Ok(Text::from(format!(in alloc; "{first} {last}")?))
+}
+
+/// When a rule stands, by its dates in UTC: `from 2026-12-01T08:00:00Z until 2026-12-01T18:00:00Z`, or one of the two;
+/// `always` where it has no bound.
 pub fn moments_text(
     alloc: Global,
     from: Option<u64>,
     until: Option<u64>,
-) -> Result<Text, AllocError> {
-    let text = match (from, until) {
-        (Some(from), Some(until)) => format!(in alloc; "{from}..{until}")?,
-        (Some(from), None) => format!(in alloc; "{from}..")?,
-        (None, Some(until)) => format!(in alloc; "..{until}")?,
-        (None, None) => format!(in alloc; "always")?,
-    };
-    Ok(Text::from(text))
+) -> Result<Text, AllocError>
+    ensures { IfOk result (λ text. AreMoments from until text) }
+{
+    match from {
+        Some(from) => match until {
+            Some(until) => between_text(alloc, from, until),
+            None => from_text(alloc, from),
+        },
+        None => match until {
+            Some(until) => until_text(alloc, until),
+            None => Text::new(alloc, "always"),
+        },
+    }
 }
 
 /// The word of a rule.

@@ -21,6 +21,10 @@ after_both : (s : State) (xs ys : List Entry) → registry_after s (xs ++ ys) �
 after_both s [] ys = refl
 after_both s (x ∷ xs) ys = after_both (state_after s x.event x.inputs) xs ys
 
+-- what each event keeps holds after all entries of a history, where it held of what was opened
+pub kept_of : (P : State → Type 0) → IsKept P → (history : History) → P history.opening → P (registry_of history)
+kept_of P kept history p = after_more P kept history.opening history.entries p
+
 -- what holds of the registry and is kept holds of the later one
 pub kept_later : (P : State → Type 0) → IsKept P → (earlier later : History) → IsContinuedBy earlier later → P (registry_of earlier) → P (registry_of later)
 kept_later P kept earlier later more p =

@@ -27,7 +27,10 @@ mod shown;
 
 pub use begun::Begun;
 pub use fault::MakeFault;
-pub use laws::{caches_stay_right_of_later_looks, later_looks_are_by_that_policy_or_a_later_one};
+pub use laws::{
+    caches_stay_right_of_later_looks, later_looks_are_by_that_policy_or_a_later_one,
+    looks_are_by_the_policy_of_their_moment,
+};
 pub use look::Look;
 pub use making::make;
 pub use pass::Pass;

@@ -60,6 +60,13 @@ impl Look {
         }
     }
 
+    /// The greatest moment that the events up to the registry told, in nanoseconds: the policy in force stands as it does then.
+    pub fn moment(&self) -> u64
+        ensures { result ≡ (registry_of self.now).moment }
+    {
+        self.registry().moment()
+    }
+
     /// The number of the policy in force.
     pub fn epoch(&self) -> u64
         ensures { result ≡ (registry_of self.now).epoch }
@@ -67,7 +74,7 @@ impl Look {
         self.registry().epoch()
     }
 
-    /// What the policy in force decides of a request. It takes no memory.
+    /// What the policy in force decides of a request at the look's moment. It takes no memory.
     pub fn verdict(&self, request: &Request<'_>) -> Verdict
         ensures { result ≡ verdict_of (registry_of self.now).policy (registry_of self.now).epoch (question_of request.now) }
     {

@@ -61,6 +61,7 @@ fn begun_is_not_shown(rt: HostRuntime) -> Result<(), Fail> {
     let wanted = Halves {
         between: Some(Sight {
             number: 0,
+            moment: 0,
             epoch: 1,
             allows: true,
         }),
@@ -68,6 +69,7 @@ fn begun_is_not_shown(rt: HostRuntime) -> Result<(), Fail> {
         receipt: 1,
         shown: Some(Sight {
             number: 1,
+            moment: 0,
             epoch: 2,
             allows: false,
         }),

@@ -10,6 +10,8 @@ mod learnt_receipts;
 #[cfg(test)]
 mod looking;
 #[cfg(test)]
+mod moments;
+#[cfg(test)]
 mod naming;
 #[cfg(test)]
 mod opening;

@@ -5,10 +5,11 @@ use channel_uri::Channel;
 use policy_core::{Act, Request};
 use published_registry::Pass;
 
-// How many entries led to the registry, the number of its policy, and whether that allows.
+// How many entries led to the registry, its moment, the number of its policy, and whether that allows an offer.
 #[derive(Clone, Copy, Debug, PartialEq, Eq)]
 pub struct Sight {
     pub number: u64,
+    pub moment: u64,
     pub epoch: u64,
     pub allows: bool,
 }
@@ -28,6 +29,7 @@ pub fn one_look(pass: Pass) -> (Pass, Option<Sight>)
         Ok(look) => {
             let sight = Sight {
                 number: look.number(),
+                moment: look.moment(),
                 epoch: look.epoch(),
                 allows: look.verdict(&request).allow,
             };

@@ -60,7 +60,11 @@ impl<N: Naming> Hand<N> {
             taken,
             exact,
         } = self;
-        let mut late = Late { rt, totals, end: 0 };
+        let mut late = Late {
+            rt,
+            totals,
+            end: None,
+        };
         let told = slot.lock(rt).offer(
             &mut late,
             share,
@@ -72,7 +76,7 @@ impl<N: Naming> Hand<N> {
             b"abc",
         );
         match taken.checked_add(taken_by(&told)) {
-            Some(sum) if late.end < u64::MAX => *taken = sum,
+            Some(sum) if late.end.is_none() => *taken = sum,
             _ => *exact = false,
         }
         told.answer

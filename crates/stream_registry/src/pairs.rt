@@ -82,7 +82,13 @@ pub fn is_allowed(clients: &Clients, policy: &Standing<'_>, epoch: u64, wish: &W
 
 /// Whether the subscription reads the log, or would if it were there: they fit, and the policy, which goes by the number
 /// `epoch`, allows the act `image` to the subscription's client. It takes no memory.
-pub fn reads(clients: &Clients, policy: &Standing<'_>, epoch: u64, log: &Source, wish: &Wish<'_>) -> bool
+pub fn reads(
+    clients: &Clients,
+    policy: &Standing<'_>,
+    epoch: u64,
+    log: &Source,
+    wish: &Wish<'_>,
+) -> bool
     ensures { result ≡ is_pair clients.now.rows policy.now epoch log.now (row_of wish.now) }
 {
     fits(log, wish) && is_allowed(clients, policy, epoch, wish)

@@ -12,8 +12,8 @@ use Rattle.driver_core.specs.declared.event.Event.{Event}
 use Rattle.driver_core.specs.declared.event.Inputs.{Inputs}
 use Rattle.driver_core.specs.declared.peer.Peer.{Peer}
 use Rattle.driver_core.specs.declared.settings.Settings.{Settings}
-use Rattle.driver_core.specs.Conduct.{state_after, state_of}
-use Rattle.driver_core.specs.State.{State, opened}
+use Rattle.driver_core.specs.Conduct.{coming_to, state_after, state_of}
+use Rattle.driver_core.specs.State.{State, opened, ruled}
 use Rattle.driver_core.proofs.ListLemmas.{contains_none}
 use Rattle.driver_laws.specs.PublishingLaws.{IsImageMadeBy, IsLogMadeBy, WasLive}
 use Rattle.driver_laws.proofs.PublishingOnlyLemmas.{published_only}
@@ -119,11 +119,13 @@ image_named i s event settings row good made =
     stream_is i _ session stream of.initial_term (join_size made.setup made.join i.term_length made.join_is of.term_length)))
 
 event_named : (i : Ident) (s : State) (event : Event) (inputs : Inputs) → IsGoodEvent i event → AreNamed i s → AreNamed i (state_after s event inputs)
+unfolding ruled
 event_named i s event inputs good named settings row has =
+    let at : State = coming_to s event in
     ⊎_elim (λ (live : WasLive s.streams row). live_named i s settings row named live)
     (λ made.
-    ⊎_elim (λ (log : IsLogMadeBy s event row). log_named i s event settings row log)
-    (λ (image : IsImageMadeBy s event row). image_named i s event settings row good image) made)
+    ⊎_elim (λ (log : IsLogMadeBy at event row). log_named i at event settings row log)
+    (λ (image : IsImageMadeBy at event row). image_named i at event settings row good image) made)
     ((published_only s event inputs).logs row has)
 
 -- ---- runs

@@ -79,7 +79,7 @@ fn are_polled(copies: &FragmentCopies, wanted: &[Whole]) -> bool {
 
 fn is_attached(answer: &Answer) -> bool {
     match answer {
-        Answer::Attached(client, _) => *client == 1,
+        Answer::Attached { client, .. } => *client == 1,
         _ => false,
     }
 }

@@ -1,6 +1,5 @@
 use Rattle.driver_laws.proofs.DestinationLemmas.{directed_exactly}
-use Rattle.driver_laws.proofs.StayingLemmas.{images_read}
 use Rattle.driver_laws.proofs.destinations_are_granted_exactly.Goals as goal
 
 pub returns : goal.returns
-returns c settings policy peers events = directed_exactly _ (images_read settings policy peers events)
+returns c settings policy peers events = directed_exactly _

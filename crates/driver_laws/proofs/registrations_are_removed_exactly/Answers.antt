@@ -1,6 +1,5 @@
 use Rattle.driver_laws.proofs.RemovedExactlyLemmas.{unregistered_exactly}
-use Rattle.driver_laws.proofs.StayingLemmas.{images_read}
 use Rattle.driver_laws.proofs.registrations_are_removed_exactly.Goals as goal
 
 pub returns : goal.returns
-returns c settings policy peers events = unregistered_exactly _ (images_read settings policy peers events)
+returns c settings policy peers events = unregistered_exactly _

@@ -9,12 +9,14 @@ pub returns-then-matches : goal.returns-then-matches
 returns-then-matches c =
     let bit : ℕ = c.lowest-bit.result in
     let small = c.lowest-bit.ensures.small in
-    let found = some_rule c.args.policy.now.rules (c.args.from + bit) (c.requires.inside bit small (c.loop-left.invariant.part bit small c.lowest-bit.ensures.set)) in
-    (found.0, record {
-      low = omega arith;
-      high = omega (arith, small);
-      stands = found.1;
-      is_match = sym (c.matches.ensures found.0 found.1) ∙ c.if-matches.true;
-      before = λ earlier other before set there.
-          c.loop-left.invariant.none earlier other (omega (arith, before, small)) set (c.lowest-bit.ensures.lower earlier (omega (arith, before))) there;
-    })
+    let found = some_rule c.args.policy.now.rules (c.args.from + bit) (c.requires.inside bit small (c.loop-left.invariant.part bit small c.lowest-bit.ensures.set)) in (
+      found.0,
+      record {
+        low = omega arith;
+        high = omega (arith, small);
+        stands = found.1;
+        is_match = sym (c.matches.ensures found.0 found.1) ∙ c.if-matches.true;
+        before = λ earlier other before set there.
+            c.loop-left.invariant.none earlier other (omega (arith, before, small)) set (c.lowest-bit.ensures.lower earlier (omega (arith, before))) there;
+      },
+    )

@@ -12,5 +12,5 @@ returns-clause-sound c = λ well.
 pub returns-clause-exact : goal.returns-clause-exact
 returns-clause-exact c = λ lenient.
     c.is_clean.ensures
-    ∙ (policy_is_clean (policy_in c.names.result.now c.args.policy.now) c.in_ok-report.report c.args.strict c.in_ok-report.ensures.accepted c.in_ok-report.ensures.refused lenient
+    ∙ (policy_is_clean (policy_in c.names.result.now c.args.policy.now) c.args.moment c.args.soon c.in_ok-report.report c.args.strict c.in_ok-report.ensures.accepted c.in_ok-report.ensures.refused lenient
     ∙ ap (λ (names : Known). is_ok (policy_in names c.args.policy.now)) c.names.ensures)

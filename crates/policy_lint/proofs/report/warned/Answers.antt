@@ -8,4 +8,8 @@ returns c = record {
   hidden = c.in_ok-hidden_in.ensures;
   unmet = c.in_ok-unmet.ensures;
   never = never_each _ _ c.in_ok-hidden_in.ensures;
+  over = c.in_ok-over_in.ensures.exact;
+  gone = c.in_ok-over_in.ensures.gone;
+  ending = c.in_ok-ending_in.ensures.exact;
+  ends = c.in_ok-ending_in.ensures.ends;
 }

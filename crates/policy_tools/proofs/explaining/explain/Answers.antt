@@ -7,6 +7,6 @@ use Rattle.policy_tools.proofs.explaining.explain.Goals as goal
 
 pub returns : goal.returns
 returns c =
-    explains c.args.policy.now (question_of c.args.request.now) c.in_ok-misses.misses.items c.verdict.result
+    explains c.args.policy.now (question_of c.args.request.now) c.in_ok-misses.misses.items c.settled_verdict.result
     (subst (λ (rules : List Rule). AreMisses rules (question_of c.args.request.now) c.in_ok-misses.misses.items) c.rules.ensures.value c.in_ok-misses.ensures)
-    c.verdict.ensures
+    c.settled_verdict.ensures

@@ -1,4 +1,4 @@
-use Rattle.std.proofs.Common.{◌≡◌, sym, ◌∙◌}
+use Rattle.std.proofs.Common.{sym}
 use Rattle.driver_core.proofs.registry.Registry.rule.Goals as goal
 
 pub returns-then-is_ruled_so : goal.returns-then-is_ruled_so

@@ -31,7 +31,7 @@ verdict-requires c =
     let place : c.in_ok-place.place ≡ c.args.epoch - 1 = search rules in
     let among = found_at c.self.inside.policies.items c.deref.result.now c.in_ok-place.place (c.args.epoch - 1) c.in_ok-policy.policy.now c.deref.ensures.value place
     c.in_ok-policy.ensures.lookup.0 c.in_ok-policy.ensures.lookup.1 in
-    c.cached_verdicts_stay_sound.ensures.at c.self.inside.policies.items (question_on c.self.inside.channel) c.self.inside.cache c.in_ok-policy.policy.now c.args.epoch c.from-2.result
+    c.cached_verdicts_stay_sound.ensures.at c.self.inside.policies.items (question_on c.self.inside.channel) c.self.inside.cache c.in_ok-policy.policy.now c.args.epoch c.args.moment c.from-2.result
     (asked c.args.principal c.args.act c.self.inside.channel (to_z w32 (of_z w32 c.from.result))) c.self.invariant among
     (same_stream c.args.principal c.args.act c.self.inside.channel _ _ stream)
 
@@ -52,5 +52,5 @@ returns-clause-kept c =
     λ entry there.
     ⊎_elim
     (λ was. inl (subst (λ (es : List (Key × Verdict)). Contains es entry) viewed was))
-    (λ is. inr (is ∙ ap (λ (n : ℕ). (record { epoch = c.args.epoch; subject = n; principal = c.args.principal; act = c.args.act }, c.verdict.result)) subject))
+    (λ is. inr (is ∙ ap (λ (n : ℕ). (record { epoch = c.args.epoch; moment = c.args.moment; subject = n; principal = c.args.principal; act = c.args.act }, c.verdict.result)) subject))
     (c.verdict.ensures.entries entry there)

@@ -1,6 +1,5 @@
-use Rattle.std.proofs.Common.{◌≡◌, ◌<◌, ℕ, sym, ◌∙◌}
+use Rattle.std.proofs.Common.{◌≡◌, sym, ◌∙◌}
 use Rattle.policy_core.specs.declared.rule.Rule.{Rule}
-use Rattle.policy_core.specs.Moments.{as_of}
 use Rattle.policy_core.specs.RuleList.{Rules}
 use Rattle.policy_core.proofs.AtMoment.{as_of_allow}
 use Rattle.policy_core.proofs.AtPlace.{as_stands, within}

@@ -1,0 +1,4 @@
+pub mod Calls
+pub mod Requests
+pub mod Reasons
+pub mod Answering

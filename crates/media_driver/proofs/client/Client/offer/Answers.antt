@@ -1,0 +1,21 @@
+use Rattle.std.proofs.Common.{◌≡◌, ℕ, ◌+◌, ◌⊎◌, IsSome, ap, subst, ◌∙◌}
+use Rattle.log_slots.specs.Counting.{taken_by}
+use Rattle.media_driver.specs.Clients.{Attached}
+use Rattle.media_driver.specs.Steps.{IsOffer, offer_answer}
+use Rattle.published_registry.specs.Histories.{registry_of}
+use Rattle.media_driver.proofs.OfferLemmas.{counted, of_some, to_some}
+use Rattle.media_driver.proofs.client.Client.offer.Goals as goal
+
+pub returns-clause-counted : goal.returns-clause-counted
+returns-clause-counted g c =
+    let same : c.self.inside.share.amount ≡ c.args.self.now.counted = ap (λ (a : Attached). a.counted) (c.self.view_is ∙ c.log_of.ensures.new_is) in
+    counted c.position_of.result c.in-Some-told.told.answer c.args.self.now _ c.position_of.ensures.answer c.position_of.ensures.counted
+    (subst (λ (n : ℕ). (c.offer_once-pass.new.mine.amount ≡ n + taken_by c.in-Some-told.told.answer) ⊎ ((c.offer_once-pass.new.mine.amount ≡ n) × IsSome c.offer_once-pass.new.ended)) same
+    (of_some _ c.offer_once-pass.result.1 c.in-Some-told.told c.in-Some-told.is c.offer_once-pass.ensures.counted))
+
+pub returns-clause-step : goal.returns-clause-step
+returns-clause-step g c =
+    let same : c.self.inside.number ≡ c.args.self.now.number = ap (λ (a : Attached). a.number) (c.self.view_is ∙ c.log_of.ensures.new_is) in
+    subst (λ (n : ℕ). IsOffer g.N.Naming.home (registry_of c.offer_once-pass.result.0) c.now-now.result n c.args.registration c.args.message.now c.position_of.result) same
+    (to_some _ (offer_answer c.position_of.result) c.in-Some-told.told.answer c.position_of.ensures.answer
+    (of_some _ c.offer_once-pass.result.1 c.in-Some-told.told c.in-Some-told.is c.offer_once-pass.ensures.step))

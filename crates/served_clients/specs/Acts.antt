@@ -1,0 +1,76 @@
+-- What each call of a connection is as a call of its client. Own rules.
+use Rattle.std.specs.Prelude.{◌≡◌, ◌≤◌, ◌⊎◌, ℕ, ℤ, Bool, List, Option, Some, None, Result, IfErr, IfOk}
+use Rattle.command_codec.specs.declared.command.Body.TheVariants.{ClientKeepalive}
+use Rattle.driver_core.specs.Listing.{list, value}
+use Rattle.driver_core.specs.declared.listing.Listed.{Listed}
+use Rattle.driver_core.specs.declared.listing.Shown.{Shown}
+use Rattle.driver_service.specs.declared.reason.Refusal.{Refusal}
+use Rattle.driver_service.specs.Calls.{Call, Stay, Command, Offer, Poll, Mail, Look, Value}
+use Rattle.log_arena.specs.Homes.{Home}
+use Rattle.log_pairs.specs.Polling.{Fetched}
+use Rattle.media_agents.specs.Mails.{Posted}
+use Rattle.media_driver.specs.Clients.{Attached, Commands, Hands, IsUnseen, Looks, TakesMail}
+use Rattle.media_driver.specs.Steps.{Counts, IsOffer, IsPoll}
+use Rattle.media_driver.specs.declared.faults.LookFault.{LookFault}
+use Rattle.media_driver.specs.declared.faults.OfferFault.{OfferFault}
+use Rattle.media_driver.specs.declared.faults.PollFault.{PollFault}
+use Rattle.media_driver.specs.declared.faults.PushFault.{PushFault}
+use Rattle.published_registry.specs.Histories.{IsContinuedBy, registry_of}
+use Rattle.served_clients.specs.Telling.{TellsList, TellsMail, TellsOffer, TellsPoll, TellsValue}
+
+-- nothing is done, or the client says that it is still there
+abbrev pub Stays : Attached → Attached → Type 0
+Stays old new = (new ≡ old) ⊎ ((gave : Result ℕ PushFault) × Commands old new ClientKeepalive gave)
+
+-- the bytes are pushed over the client's handle, whatever they are; or they are refused, and nothing is done
+abbrev pub HandsBytes : Attached → Attached → List ℕ → Option Refusal → Type 0
+HandsBytes old new bytes None = Hands old new bytes
+HandsBytes old new bytes (Some refusal) = new ≡ old
+
+-- the client offers a message, by its own registration, under the registry that it sees
+pub record OffersBy (home : Home) (old new : Attached) (registration : ℕ) (message : List ℕ) (told : Result ℕ Refusal) : Type 0 where
+  pub gave : Result ℕ OfferFault
+  pub known : IsContinuedBy old.known new.known
+  pub moment : old.moment ≤ new.moment
+  pub same : new ≡ record old { known = new.known; moment = new.moment; counted = new.counted; ended = new.ended }
+  pub counted : Counts gave old new
+  pub step : IsOffer home (registry_of new.known) new.moment old.number registration message gave
+  pub told_is : TellsOffer gave told
+
+-- it polls a log, by its own subscription; what is written are the fragments that it was given
+pub record PollsBy (home : Home) (old new : Attached) (subscription source limit : ℕ) (written : List ℕ) (told : Result ℕ Refusal) : Type 0 where
+  pub gave : Result (List Fetched) PollFault
+  pub looks : Looks old new
+  pub step : IsPoll home (registry_of new.known) old.number subscription source limit gave
+  pub told_is : TellsPoll gave written told
+
+-- it takes its next reply
+pub record TakesReply (old new : Attached) (written : List ℕ) (told : Result Bool Refusal) : Type 0 where
+  pub mail : Option Posted
+  pub taken : TakesMail old new mail
+  pub told_is : TellsMail mail written told
+
+-- it looks at the counters that it may see
+pub record ListsBy (old new : Attached) (written : List ℕ) (told : Result ℕ Refusal) : Type 0 where
+  pub gave : Result Listed LookFault
+  pub looks : Looks old new
+  pub listed : IfOk gave (λ rows. rows ≡ list (registry_of new.known) old.number)
+  pub fault : IfErr gave (λ fault. IsUnseen old new fault)
+  pub told_is : TellsList gave written told
+
+-- it looks at the value of a counter
+pub record ValuesBy (old new : Attached) (number : ℕ) (told : Result ℤ Refusal) : Type 0 where
+  pub gave : Result Shown LookFault
+  pub looks : Looks old new
+  pub shown : IfOk gave (λ shown. shown ≡ value (registry_of new.known) old.number number)
+  pub told_is : TellsValue gave told
+
+-- A client before and after a call of its connection.
+abbrev pub IsAct : Home → Attached → Call → Attached → Type 0
+IsAct home old Stay new = Stays old new
+IsAct home old (Command bytes refusal) new = HandsBytes old new bytes refusal
+IsAct home old (Offer registration message told) new = OffersBy home old new registration message told
+IsAct home old (Poll subscription source limit written told) new = PollsBy home old new subscription source limit written told
+IsAct home old (Mail written told) new = TakesReply old new written told
+IsAct home old (Look written told) new = ListsBy old new written told
+IsAct home old (Value number told) new = ValuesBy old new number told

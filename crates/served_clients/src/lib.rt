@@ -1,0 +1,16 @@
+//! A client of a driver as the seat of a connection: what each of its calls makes of the client, in the words of `media_driver`.
+//!
+//! So what [`driver_service::Connection`] promises of calls holds of a real client: a connection does what one client of its
+//! principal may do, and nothing else.
+#![tactic(auto)]
+
+mod habits;
+mod keeper;
+mod looking;
+mod polling;
+mod refusing;
+mod replying;
+mod served;
+
+pub use keeper::Keeper;
+pub use served::Served;

@@ -1,0 +1,5 @@
+pub mod Numbers
+pub mod FieldLemmas
+pub mod FramingLemmas
+pub mod RequestLemmas
+pub mod AnswerLemmas

@@ -1,0 +1,5 @@
+pub mod Gives
+pub mod Fields
+pub mod Framing
+pub mod Request
+pub mod Answer
