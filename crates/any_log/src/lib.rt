@@ -8,6 +8,7 @@
 
 mod any_log;
 mod asking;
+mod progress;
 mod reporting;
 mod sending;
 
@@ -15,4 +16,5 @@ pub use any_log::AnyLog;
 pub use asking::NakReply;
 pub use image_log::Insert;
 pub use log_pairs::{CopiedFragments, Fragment, FragmentCopies};
+pub use progress::Progress;
 pub use publication_sender::StatusAnswer;

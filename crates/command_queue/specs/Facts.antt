@@ -51,7 +51,11 @@ module _ {E : Type 0} where
     pub all : All (λ (letter : Letter E). letter.from < total) (gone ++ letters)
     pub fits : Fits gone letters facts
 
-  -- at one moment 1,024 such letters were in the queue
+  -- at one moment so many such letters were in the queue
+  abbrev pub DidHold : ℕ → ℕ → ℕ → List E → Facts E → Type 0
+  DidHold count total number sent facts =
+      (letters : List (Letter E)) × (length letters ≡ count) × AreSent total number sent facts letters
+
+  -- at one moment 1,024 were
   abbrev pub WasFull : ℕ → ℕ → List E → Facts E → Type 0
-  WasFull total number sent facts =
-      (letters : List (Letter E)) × (length letters ≡ 1024) × AreSent total number sent facts letters
+  WasFull total number sent facts = DidHold 1024 total number sent facts

@@ -3,6 +3,7 @@
 //! [`make`] gives a queue's senders and its taker. [`Sender::push`] puts an event at the back, or hands it back where the
 //! queue was full at one moment; [`Taker::pop`] takes the one at the front, or answers `None` where the queue was empty at
 //! one moment. Each event is taken once at most, and those of one sender in its order, whatever the other threads did.
+//! [`Sender::len`] says how many events the queue held at one moment.
 //!
 //! Both are lent what their caller knows of the queue ([`Known`]), by [`Sender::note`], [`Sender::end`] or
 //! [`Taker::note`]. It decides nothing and has no bytes; but each answer fits it, so a `None` says that all that is known

@@ -1,6 +1,6 @@
-ghost use Rattle.command_queue.specs.Facts.{WasFull, at_least, in_all};
+ghost use Rattle.command_queue.specs.Facts.{DidHold, WasFull, at_least, in_all};
 ghost use Rattle.command_queue.specs.Known.{IsKnown, Tells, facts_of};
-ghost use Rattle.std.specs.Prelude.{◌≡◌, ◌++◌, ◌∷◌, [], MatchResult, OnErr};
+ghost use Rattle.std.specs.Prelude.{◌≡◌, ◌≤◌, ◌++◌, ◌∷◌, [], MatchResult, OnErr};
 
 use crate::known::Known;
 use crate::letter::{Letter, Refused};
@@ -55,6 +55,20 @@ impl<E: Drop> Sender<E> {
             Ok(()) => Ok(()),
             Err(back) => Err(Refused(back.event)),
         }
+    }
+
+    /// How many events the queue held at one moment of the call, which fits what is known. Others may push and take before it
+    /// returns. It takes no memory.
+    pub fn len<R: Wait>(&mut self, rt: &R, known: &mut Known<E>) -> usize
+        requires known { IsKnown self.old.queue known.old }
+        ensures known { Tells self.old.queue (facts_of known.old) known.new }
+        ensures same { self.new ≡ self.old }
+        ensures few { result ≤ 1024 }
+        ensures held { DidHold result self.old.total self.old.number self.old.sent (facts_of known.old) }
+    {
+        let told = self.queue.another::<Copies>(known);
+        self.queue.absorb::<Hears>(&mut self.pass, told);
+        self.queue.len_as::<Sends, R>(rt, &mut self.pass)
     }
 
     /// What this sender sent so far, for whoever is to know of it.

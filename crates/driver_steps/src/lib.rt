@@ -24,6 +24,7 @@ mod open_logs;
 mod opening;
 mod packets;
 mod polling;
+mod progress;
 mod reading;
 mod receiving;
 mod recovery;
@@ -35,7 +36,7 @@ mod step;
 mod told;
 
 pub use answer::{Answer, Offered};
-pub use any_log::{CopiedFragments, Fragment, FragmentCopies};
+pub use any_log::{CopiedFragments, Fragment, FragmentCopies, Progress};
 pub use asking::Asks;
 pub use cause::Cause;
 pub use driver::Driver;

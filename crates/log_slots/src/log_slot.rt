@@ -11,13 +11,15 @@ ghost use Rattle.driver_steps.specs.Sending.{send_move};
 ghost use Rattle.frame_codec.specs.Datagram.{content};
 ghost use Rattle.learnt_addresses.specs.Laws.{AreOrderly};
 ghost use Rattle.log_slots.specs.Counting.{taken_by};
+ghost use Rattle.log_slots.specs.Positions.{consumed_in, progress_in, reading_in};
 ghost use Rattle.log_slots.specs.Slots.{DecidesHeard, DecidesIn, GivesHeard, GivesIn, Hears, IsMadeFor, IsSlot, Moves, is_of, is_silent_in, log_of, messages_in, packet_decision, reach_in, with_readers, without_log};
 ghost use Rattle.std.specs.Prelude.{◌≡◌, ◌≢◌, ◌+◌, ◌≤◌, length, None, Some, IfErr, IfOk, IfSome, OnErr, OnOk};
 
 use crate::naming::Naming;
+use crate::positions::{ReadingPositions, consumed_by};
 use driver_core::{Address, Astray, View};
 use driver_steps::{
-    Answer, Asks, Cause, Offered, OpenLog, PacketRequest, Told, image_step, offer_step,
+    Answer, Asks, Cause, Offered, OpenLog, PacketRequest, Progress, Told, image_step, offer_step,
     packet_step, poll_step, send_step,
 };
 use frame_codec::Packet;
@@ -207,6 +209,49 @@ impl<N: Naming> LogSlot<N> {
         match &self.log {
             Some(log) => log.is_silent(now, limit),
             None => false,
+        }
+    }
+
+    /// How far the log of that source has come, if it is open here and that of a publication, and whether it is connected at
+    /// the moment `now`, where the last status message stands for `timeout`, both in nanoseconds.
+    pub fn progress(&self, source: u64, now: u64, timeout: u64) -> Option<Progress>
+        ensures { result ≡ progress_in source now timeout self.now }
+    {
+        if self.source != source {
+            return None;
+        }
+        match &self.log {
+            Some(log) => log.progress(now, timeout),
+            None => None,
+        }
+    }
+
+    /// How far a subscription has come with the log of that source, if it is open here and the subscription reads it.
+    pub fn reading(&self, source: u64, subscription: u64) -> Option<ReadingPositions>
+        ensures { result ≡ reading_in source subscription self.now }
+    {
+        if self.source != source {
+            return None;
+        }
+        match &self.log {
+            Some(log) => match log.pair_position(subscription) {
+                Some(position) => Some(ReadingPositions {
+                    position,
+                    received: log.reach(),
+                }),
+                None => None,
+            },
+            None => None,
+        }
+    }
+
+    /// Up to which position a receiver has taken all that reports to the log by a datagram, if one is open.
+    pub(crate) fn consumed(&self, packet: &Packet<'_>) -> Option<u64>
+        ensures { result ≡ consumed_in (content packet.now) self.now.log }
+    {
+        match &self.log {
+            Some(log) => consumed_by(log, packet),
+            None => None,
         }
     }
 

@@ -3,6 +3,7 @@
 ghost use Rattle.std.specs.Prelude.{◌≡◌, ◌+◌, ◌≤◌, length};
 
 use crate::naming::{Naming, OfSlots};
+use crate::patient::lock_soon;
 use crate::slot::Slot;
 use std::sync::ledger::Share;
 use std::sync::{Mutex, Wait};
@@ -18,7 +19,7 @@ pub fn settle_all<N: Naming, R: Wait>(
 {
     let mut settled = 0;
     for slot in slots {
-        if let Some(share) = slot.lock(rt).settle() {
+        if let Some(share) = lock_soon(rt, slot).settle() {
             all.merge(share);
             settled += 1;
         }

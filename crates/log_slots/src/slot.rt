@@ -9,15 +9,18 @@ ghost use Rattle.driver_steps.specs.Sending.{send_move};
 ghost use Rattle.frame_codec.specs.Datagram.{content};
 ghost use Rattle.learnt_addresses.specs.Laws.{AreOrderly};
 ghost use Rattle.log_slots.specs.Counting.{Adds, IsCounted, settled_of, taken_by};
+ghost use Rattle.log_slots.specs.Positions.{consumed_in, is_limit, noted_if, positions_in, reading_in};
 ghost use Rattle.log_slots.specs.Slots.{DecidesHeard, DecidesIn, GivesHeard, GivesIn, Hears, IsMadeFor, IsSlot, Moves, log_of, messages_in, packet_decision, reach_in, with_readers, without_log};
-ghost use Rattle.std.specs.Prelude.{◌≡◌, ◌≢◌, ◌+◌, ◌<◌, ◌≤◌, ◌⊎◌, length, None, Some, false, true, IfErr, IfNone, IfOk, IfSome, MatchBool, OnErr, OnOk};
+ghost use Rattle.std.specs.Prelude.{◌≡◌, ◌≢◌, ◌+◌, ◌<◌, ◌≤◌, ◌⊎◌, [], length, None, Some, false, true, IfErr, IfNone, IfOk, IfSome, MatchBool, OnErr, OnOk};
 
 use crate::log_slot::{LogSlot, closed};
 use crate::naming::{Naming, OfClients, OfSlots};
+use crate::positions::{PublicationPositions, ReadingPositions, counted_as, is_limit, note_if};
 use crate::totals::Counts;
 use driver_core::{Address, View};
 use driver_steps::{Answer, Asks, Offered, OpenLog, PacketRequest, Told};
 use frame_codec::Packet;
+use receiver_reports::Reports;
 use std::alloc::{AllocError, Global};
 use std::marker::Model;
 use std::mem;
@@ -37,6 +40,8 @@ pub struct Slot<N: Naming> {
     /// Whether the driver has ended, and the share was taken out: no log is open then, nor opens any more.
     settled: bool,
     share: Share<OfSlots<N>>,
+    /// What the receivers of the log reported that is or was there last.
+    reports: Reports,
 }
 
 impl<N: Naming> Model for Slot<N> {
@@ -46,7 +51,7 @@ impl<N: Naming> Model for Slot<N> {
 
     ghost Value = { SlotCount };
 
-    ghost view = { λ slot. record { kept = slot.kept; closed = slot.closed; counted = slot.share.amount; exact = slot.exact; settled = slot.settled } };
+    ghost view = { λ slot. record { kept = slot.kept; closed = slot.closed; counted = slot.share.amount; exact = slot.exact; settled = slot.settled; reports = slot.reports } };
 
     ghost invariant = { λ slot. (slot.exact ≡ true → slot.share.amount ≡ messages_in slot.kept.log + slot.closed)
         × (slot.settled ≡ false → slot.share.parts ≡ 1)
@@ -67,7 +72,7 @@ impl<N: Naming> Slot<N> {
         requires { (share.parts ≡ 1) × (share.amount ≡ 0) }
         ensures kept { (result.kept.source ≡ 0) × (result.kept.log ≡ None) }
         ensures counted { (result.closed ≡ 0) × (result.counted ≡ 0) }
-        ensures begins { (result.exact ≡ true) × (result.settled ≡ false) }
+        ensures begins { (result.exact ≡ true) × (result.settled ≡ false) × (result.reports ≡ []) }
     {
         Slot {
             kept: LogSlot::new(),
@@ -75,6 +80,7 @@ impl<N: Naming> Slot<N> {
             exact: true,
             settled: false,
             share,
+            reports: Reports::new(),
         }
     }
 
@@ -168,7 +174,7 @@ impl<N: Naming> Slot<N> {
         self.kept.send(view, alloc, now, source)
     }
 
-    /// A log opens here, that has taken no message yet.
+    /// A log opens here, that has taken no message yet, and of which nothing was reported yet.
     ///
     /// # Errors
     /// It is handed back where another log is open, or the driver has ended. Nothing is changed then.
@@ -177,14 +183,16 @@ impl<N: Naming> Slot<N> {
         requires made { IsMadeFor session stream (made_held log.log) }
         requires fresh { messages_held log.log ≡ 0 }
         ensures free { OnOk result ((self.old.settled ≡ false) × (self.old.kept.log ≡ None)) }
-        ensures opened { OnOk result (self.new ≡ record self.old { kept = record { source = log.source; session = session; stream = stream; log = Some log } }) }
+        ensures opened { OnOk result (self.new ≡ record self.old { kept = record { source = log.source; session = session; stream = stream; log = Some log }; reports = [] }) }
         ensures full { OnErr result ((self.old.settled ≡ true) ⊎ (self.old.kept.log ≢ None)) }
         ensures err { IfErr result (λ back. (back ≡ log) × (self.new ≡ self.old)) }
     {
         if self.settled {
             return Err(log);
         }
-        self.kept.open(log, session, stream)
+        self.kept.open(log, session, stream)?;
+        self.reports = Reports::new();
+        Ok(())
     }
 
     /// The log of that source closes, if it is open here: it is handed out, with its lease. Its messages are among those of
@@ -216,7 +224,26 @@ impl<N: Naming> Slot<N> {
         self.kept.rejoin(source, subscriptions)
     }
 
-    /// A NAK or a status message comes for the log of a source, as [`LogSlot::packet`] says.
+    /// How far the log of that source has come, if it is open here: whether it is connected, and what its receivers have taken
+    /// that were heard, not longer before the moment `now` than `timeout`, both in nanoseconds.
+    pub fn positions(&self, source: u64, now: u64, timeout: u64) -> Option<PublicationPositions>
+        ensures { result ≡ positions_in source now timeout self.now.kept self.now.reports }
+    {
+        match self.kept.progress(source, now, timeout) {
+            Some(progress) => Some(counted_as(progress, self.reports.least(now, timeout))),
+            None => None,
+        }
+    }
+
+    /// How far a subscription has come with the log of that source, as [`LogSlot::reading`] says.
+    pub fn reading(&self, source: u64, subscription: u64) -> Option<ReadingPositions>
+        ensures { result ≡ reading_in source subscription self.now.kept }
+    {
+        self.kept.reading(source, subscription)
+    }
+
+    /// A NAK or a status message comes for the log of a source, as [`LogSlot::packet`] says. What a status message reports that
+    /// the log accepts is noted.
     pub fn packet(
         &mut self,
         alloc: Global,
@@ -228,11 +255,21 @@ impl<N: Naming> Slot<N> {
         requires { IsSoundContent (content packet) }
         ensures moved { IfOk result (λ told. Hears (content packet.entry) (packet_move now from.now request.now (content packet.entry)) self.old.kept self.new.kept.log told.answer) }
         ensures decides { IfOk result (λ told. DecidesHeard (content packet.entry) (packet_decision request.now) self.old.kept told.decision) }
-        ensures same { self.new ≡ record self.old { kept = record self.old.kept { log = self.new.kept.log } } }
+        ensures same { self.new ≡ record self.old { kept = record self.old.kept { log = self.new.kept.log }; reports = self.new.reports } }
+        ensures noted { IfOk result (λ told. self.new.reports ≡ noted_if (is_limit told.answer) (consumed_in (content packet.entry) self.old.kept.log) now from.now self.old.reports) }
         ensures err { OnErr result (self.new ≡ self.old) }
         ensures without_memory { OnErr result (GivesHeard (content packet.entry) (packet_move now from.now request.now (content packet.entry)) self.old.kept) }
     {
-        self.kept.packet(alloc, now, from, packet, request)
+        let consumed = self.kept.consumed(&packet);
+        let told = self.kept.packet(alloc, now, from, packet, request)?;
+        note_if(
+            &mut self.reports,
+            is_limit(&told.answer),
+            consumed,
+            now,
+            from,
+        );
+        Ok(told)
     }
 
     /// The driver ends: the share is taken out, and the log, if one is open, is let go. A second time there is no share, and

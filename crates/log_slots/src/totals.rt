@@ -2,6 +2,7 @@ ghost use Rattle.std.specs.Prelude.{◌≡◌, ◌+◌, ◌-◌, ◌↔◌, ◌�
 
 use crate::at_end::AtEnd;
 use crate::naming::{Naming, OfClients, OfSlots};
+use crate::patient::lock_soon;
 use std::marker::Model;
 use std::sync::ledger::{Book, Share};
 use std::sync::{Mutex, Wait};
@@ -124,7 +125,7 @@ impl<'a, N: Naming, R: Wait> Counts<N> for Late<'a, N, R> {
     ghost is_full = { λ late. IsSome late.end };
 
     fn one_more(&mut self, client: &mut Share<OfClients<N>>, slot: &mut Share<OfSlots<N>>) -> bool {
-        let mut totals = self.totals.lock(self.rt);
+        let mut totals = lock_soon(self.rt, self.totals);
         let counted = totals.add(client, slot);
         if !counted {
             self.end = AtEnd::of(&*totals);

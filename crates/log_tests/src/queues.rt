@@ -38,6 +38,12 @@ impl Sends {
     {
         self.sender.push(rt, &mut self.known, event)
     }
+
+    fn len(&mut self, rt: &impl Wait) -> usize
+        ensures { self.new.sender.queue ≡ self.old.sender.queue }
+    {
+        self.sender.len(rt, &mut self.known)
+    }
 }
 
 /// A taker, with what it knows of its queue.
@@ -88,8 +94,9 @@ fn empties(rt: &impl Wait, taker: &mut Takes, by: u32, count: u32) -> bool {
 
 /// Whether a full queue takes no event, and one that is taken makes room for one.
 fn is_full(rt: &impl Wait, sender: &mut Sends, taker: &mut Takes) -> bool {
-    let filled = taker.pop(rt).is_none() & fills(rt, sender);
-    let first = taker.pop(rt) == Some(Sent { by: 0, number: 0 });
+    let empty = sender.len(rt) == 0;
+    let filled = empty & taker.pop(rt).is_none() & fills(rt, sender) & (sender.len(rt) == EVENTS);
+    let first = taker.pop(rt) == Some(Sent { by: 0, number: 0 }) && sender.len(rt) == EVENTS - 1;
     let one = Sent {
         by: 0,
         number: 1024,

@@ -11,10 +11,12 @@ ghost use Rattle.std.specs.declared.net.ipv4_addr.Ipv4Addr.{Ipv4Addr};
 
 use crate::wire::{Wire, WireFault};
 use channel_uri::Address;
+use libc::net as c;
 use std::alloc::{AllocError, Global};
 use std::io::ErrorKind;
 use std::marker::Model;
 use std::net::{Ipv4Addr, Net, SocketAddr, SocketAddrV4, UdpSocket};
+use std::os::fd::AsRawFd;
 
 // A socket that is bound to an address, and at which call it was used last.
 #[derive(Drop)]
@@ -68,9 +70,20 @@ fn address(from: &SocketAddr) -> Option<Address>
     }
 }
 
+// How many bytes of datagrams that were not read yet a socket keeps, where the system lets it.
+const KEPT: i32 = 4_194_304;
+
+// The socket keeps more of what comes, as far as the system lets it.
+fn widen(socket: &UdpSocket) {
+    let mut value = [0u8; 16];
+    value[..4].copy_from_slice(&KEPT.to_ne_bytes());
+    let _ = unsafe { c::setsockopt(socket.as_raw_fd(), c::SOL_SOCKET, c::SO_RCVBUF, &value, 4) };
+}
+
 // A socket at an address, whose calls never wait.
 fn opened<N: Net>(net: &N, local: &Address) -> Option<UdpSocket> {
     let socket = UdpSocket::bind(net, socket_address(local)).ok()?;
+    widen(&socket);
     match socket.set_nonblocking(true) {
         Ok(()) => Some(socket),
         Err(_) => None,

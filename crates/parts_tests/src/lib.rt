@@ -70,6 +70,8 @@ mod streams;
 #[cfg(test)]
 mod subscribers;
 #[cfg(test)]
+mod tallies;
+#[cfg(test)]
 mod texts;
 #[cfg(test)]
 mod unread;
