@@ -10,12 +10,12 @@ use command_queue::Taker;
 use driver_core::{Address, Event};
 use log_arena::Arena;
 use log_slots::Region;
-use media_agents::{Conductor, DriverNaming, Ring, Rings, Works};
+use media_agents::{Conductor, DriverNaming, Ring, Rings, Slots, Works};
 use published_registry::{Pass, Publisher};
 use rows::Rows;
 use rtrb::RingBuffer;
 use std::alloc::{AllocError, Global};
-use std::sync::Wait;
+use std::sync::{Arc, Wait};
 
 // One ring, whose replies nobody takes.
 fn rings<N: DriverNaming>(alloc: Global) -> Result<Rings<N>, AllocError> {
@@ -52,6 +52,7 @@ struct Outfit<N: DriverNaming> {
     common: Common<N>,
     taker: Taker<Event>,
     hand: Hand<N>,
+    slots: Arc<Slots<N>>,
 }
 
 // The agents that are turned beside the conductor, and its end of the queue.
@@ -81,12 +82,14 @@ impl<N: DriverNaming> Outfit<N> {
         } = pieces;
         let store = Store::new(alloc, arena)?;
         let common = Common::new(alloc, slots)?;
+        let slots = common.slots()?;
         let (taker, hand) = make_hand(alloc, &common, local, passes)?;
         Ok(Outfit {
             store,
             common,
             taker,
             hand,
+            slots,
         })
     }
 
@@ -100,6 +103,7 @@ impl<N: DriverNaming> Outfit<N> {
             common,
             taker,
             hand,
+            slots: kept,
         } = self;
         let Store {
             region,
@@ -111,6 +115,7 @@ impl<N: DriverNaming> Outfit<N> {
         Driver {
             conductor: Conductor::new(taker, works, gate),
             hand,
+            slots: kept,
         }
     }
 }
@@ -119,6 +124,7 @@ impl<N: DriverNaming> Outfit<N> {
 pub struct Driver<N: DriverNaming> {
     pub conductor: Conductor<N, Open>,
     pub hand: Hand<N>,
+    pub slots: Arc<Slots<N>>,
 }
 
 impl<N: DriverNaming> Driver<N> {
@@ -147,7 +153,11 @@ impl<N: DriverNaming> Driver<N> {
 
     // Its conductor ends, and with it all logs.
     pub fn end<R: Wait>(self, rt: &R) {
-        let Driver { conductor, hand: _ } = self;
+        let Driver {
+            conductor,
+            hand: _,
+            slots: _,
+        } = self;
         drop(conductor.end(rt));
     }
 }

@@ -9,9 +9,9 @@ use crate::driver::Driver;
 use crate::endpoints::{Came, HOST, ask, asking, next};
 use crate::parts::{MEMBER, Parts};
 use driver_core::{Address, Event, Settings};
-use media_agents::DriverNaming;
+use media_agents::{DriverNaming, Miss, Tally};
 use media_wire::Network;
-use policy_core::Policy;
+use policy_core::{Policy, Verdict};
 use policy_text::Names;
 use std::alloc::Global;
 use std::marker::Brand;
@@ -68,6 +68,20 @@ allow = false
 // The policy of the text; `None` where it is none.
 fn policy(alloc: Global, text: &str) -> Option<Policy> {
     policy_text::read(alloc, text, &Names::new(alloc)).ok()
+}
+
+// That was so often denied to the second, by the first rule of that policy.
+fn of_second(miss: Miss, epoch: u64, count: u64) -> Tally {
+    Tally {
+        miss,
+        verdict: Some(Verdict {
+            allow: false,
+            rule: Some(1),
+            epoch,
+        }),
+        address: SECOND,
+        count,
+    }
 }
 
 // What a turn of the sender sends to a subscriber.
@@ -173,6 +187,17 @@ impl<N: DriverNaming> Row<N> {
         Some([alone, both, still, silent, again, denied, after])
     }
 
+    // Whether just that was counted: the second was denied to join twice, by the first rule of the second policy, and twice
+    // nothing was sent to it, by that of the third.
+    fn is_counted<R: Wait>(&self, rt: &R) -> bool {
+        let tallies = self.driver.slots.tallies.lock(rt).copy();
+        let rows = [
+            of_second(Miss::Denied, 2, 2),
+            of_second(Miss::Withheld, 3, 2),
+        ];
+        tallies.rows() == rows.as_slice() && tallies.others() == 0
+    }
+
     // The driver ends.
     fn end<R: Wait>(self, rt: &R) {
         let Row {
@@ -184,8 +209,8 @@ impl<N: DriverNaming> Row<N> {
     }
 }
 
-// What both get in all.
-type Seen = ([[Gets; 2]; 7], [[Gets; 2]; 5]);
+// What both get in all, and whether what they did not get is counted.
+type Seen = ([[Gets; 2]; 7], [[Gets; 2]; 5], bool);
 
 // What is seen of a driver of these parts; `None` where there is no memory.
 fn seen_of<N: DriverNaming, R: Wait>(rt: &R, alloc: Global, parts: Parts) -> Option<Seen>
@@ -204,8 +229,9 @@ fn seen_of<N: DriverNaming, R: Wait>(rt: &R, alloc: Global, parts: Parts) -> Opt
     };
     let served = row.served(rt);
     let paused = row.paused(rt);
+    let counted = row.is_counted(rt);
     row.end(rt);
-    Some((served?, paused?))
+    Some((served?, paused?, counted))
 }
 
 // The same of a driver of its own.
@@ -239,6 +265,7 @@ fn destinations_are_learnt(rt: HostRuntime) {
                     [Gets::Setup, Gets::Nothing],
                     [Gets::Setup, Gets::Setup],
                 ],
+                true,
             ))
     );
 }

@@ -6,6 +6,7 @@ mod commands;
 #[cfg(test)]
 mod common;
 #[cfg(test)]
+#[cfg(test)]
 mod driver;
 #[cfg(test)]
 mod eliciting;

@@ -1,7 +1,8 @@
 -- One more of those that are asked in order; and a slot that is not there.
 use Rattle.std.proofs.Common.{◌≡◌, ◌+◌, ◌<◌, ◌≤◌, ◌==◌, ℕ, Bool, true, false, All, List, [], ◌∷◌, ◌++◌, Option, Some, None, ap, cond, get_or, length, max, pos, refl, subst, sym, take, ◌∙◌}
-use Rattle.std.proofs.lemmas.List.{take_all, take_more}
-use Rattle.std.proofs.lemmas.List.Elements.{All-append, All-cons, All-nil}
+use Rattle.std.proofs.lemmas.List.{append-nil, take_all, take_more}
+use Rattle.std.proofs.lemmas.List.Elements.{All-append, All-cons, All-nil, filter_map-append}
+use Rattle.std.specs.Prelude.{filter_map}
 use Rattle.driver_core.specs.State.{State, at_moment}
 use Rattle.driver_steps.specs.Held.{HeldLog}
 use Rattle.log_arena.specs.Homes.{Home}
@@ -52,6 +53,28 @@ pub all_next : {A : Type 0} (P : A → Type 0) (all : List A) (at : ℕ) (d : A)
 all_next P all at d within before here =
     subst (All P) (sym (take_more all at d within))
     (All-append P (take at all) (get_or all at d ∷ []) before (All-cons P (get_or all at d) [] here (All-nil P)))
+
+-- ---- one more of those that are found
+
+module _ {A B : Type 0} (of : A → Option B) where
+  found_more : (all : List A) (at : ℕ) (d : A) (old : List B) → at < length all → old ≡ filter_map of (take at all) →
+      filter_map of (take (at + 1) all) ≡ old ++ filter_map of (get_or all at d ∷ [])
+  found_more all at d old within before =
+      ap (filter_map of) (take_more all at d within)
+      ∙ filter_map-append of (take at all) (get_or all at d ∷ [])
+      ∙ ap (λ (those : List B). those ++ filter_map of (get_or all at d ∷ [])) (sym before)
+
+  pub found_next : (all : List A) (at : ℕ) (d : A) (old new : List B) (answer : B) → at < length all → old ≡ filter_map of (take at all) →
+      Some answer ≡ of (get_or all at d) → new ≡ old ++ answer ∷ [] → new ≡ filter_map of (take (at + 1) all)
+  found_next all at d old new answer within before said more =
+      let one : filter_map of (get_or all at d ∷ []) ≡ answer ∷ [] = rw (sym said) refl in
+      more ∙ ap (λ (those : List B). old ++ those) (sym one) ∙ sym (found_more all at d old within before)
+
+  pub none_found : (all : List A) (at : ℕ) (d : A) (old : List B) → at < length all → old ≡ filter_map of (take at all) →
+      None ≡ of (get_or all at d) → old ≡ filter_map of (take (at + 1) all)
+  none_found all at d old within before said =
+      let none : filter_map of (get_or all at d ∷ []) ≡ [] = rw (sym said) refl in
+      sym (append-nil old) ∙ ap (λ (those : List B). old ++ those) (sym none) ∙ sym (found_more all at d old within before)
 
 -- ---- a slot that is not there is as one in which no log was opened
 

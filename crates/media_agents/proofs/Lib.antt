@@ -6,5 +6,6 @@ pub mod ImageLemmas
 pub mod LookLemmas
 pub mod PostingLemmas
 pub mod RowLemmas
+pub mod SetUpLemmas
 pub mod TrafficLemmas
 pub mod TurnLemmas

@@ -3,20 +3,16 @@ use Rattle.std.proofs.Common.{◌≡◌, ℕ, ◌+◌, ◌<◌, Bool, true, fals
 use Rattle.std.proofs.lemmas.List.{append-nil, map-append, take_more}
 use Rattle.std.proofs.lemmas.List.Elements.{All-append, All-cons, All-head, All-map, All-nil, All-tail, Contains-append_right, filter-append}
 use Rattle.channel_uri.specs.declared.address.Address.{Address}
-use Rattle.command_queue.specs.Sent.{Sent}
-use Rattle.driver_core.specs.declared.event.Event.{Event as Happening}
-use Rattle.driver_core.specs.declared.event.Event.TheVariants.{Setup as SetUp}
 use Rattle.driver_core.specs.declared.send_request.Outlet.{Outlet}
 use Rattle.driver_steps.specs.declared.answer.Answer.{Answer}
 use Rattle.driver_steps.specs.declared.answer.Answer.TheVariants.{Reported, Resent, Sent as Cut}
-use Rattle.frame_codec.specs.declared.setup.Setup.{Setup}
 use Rattle.media_agents.specs.declared.listing.ImageAt.{ImageAt}
 use Rattle.media_wire.specs.Events.{Event, failed, nothing, read, sent, sent_event}
 use Rattle.media_wire.specs.Letters.{letter}
 use Rattle.media_wire.specs.declared.letter.Letter.{Letter}
 use Rattle.media_wire.specs.declared.wire.WireFault.{WireFault}
 use Rattle.std.specs.Prelude.{◌≤◌, Contains, None, Result, Ok, Err, Some}
-use Rattle.media_agents.specs.Traffic.{AreSentFrom, AreTried, GoesOn, HearsEach, IsHeard, IsReadAt, IsReading, IsSentFrom, IsSetUp, IsTried, ReadsEach, ReadsOut, Receives, Sends, SentEach, SetsUp, is_allowed, letters_of, letters_to, reads}
+use Rattle.media_agents.specs.Traffic.{AreSentFrom, AreTried, GoesOn, HearsEach, IsHeard, IsReadAt, IsReading, IsSentFrom, IsTried, ReadsEach, ReadsOut, Receives, Sends, SentEach, is_allowed, letters_of, letters_to, reads}
 
 -- what was done first, and what was done then
 pub goes_on : (First Then Whole : List Event → Type 0) (old between new : List Event → Type 0)
@@ -366,22 +362,3 @@ turn_receives endpoints images letters old heard told new one two three =
     })
     one
     (goes_on (SentEach images) (AreTried letters) (SendsAll images letters) heard told new (λ a b sent tried. (a, b, refl, sent, tried)) two three)
-
--- ---- SETUPs
-
-pub sets_up_none : (now : ℕ) (queue : Sent Happening) → SetsUp now queue queue
-sets_up_none now queue =
-    ([], All-nil (IsSetUp now), ap (λ (sent : List Happening). record queue { sent = sent }) (sym (append-nil queue.sent)))
-
-pub sets_up_one : (now : ℕ) (old new : Sent Happening) (local from : Address) (setup : Setup)
-    → new ≡ record old { sent = old.sent ++ SetUp now local from setup ∷ [] } → SetsUp now old new
-sets_up_one now old new local from setup is =
-    (SetUp now local from setup ∷ [], All-cons (IsSetUp now) (SetUp now local from setup) [] (local, from, setup, refl) (All-nil (IsSetUp now)), is)
-
-pub sets_up_more : (now : ℕ) (old between new : Sent Happening) → SetsUp now old between → SetsUp now between new → SetsUp now old new
-sets_up_more now old between new one two = (
-  one.0 ++ two.0,
-  All-append (IsSetUp now) one.0 two.0 one.1 two.1,
-  two.2 ∙ ap (λ (queue : Sent Happening). record queue { sent = queue.sent ++ two.0 }) one.2
-      ∙ ap (λ (sent : List Happening). record old { sent = sent }) (append_assoc old.sent one.0 two.0),
-)

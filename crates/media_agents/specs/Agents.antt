@@ -18,9 +18,11 @@ pub record Sending : Type 0 where
   pub known : History
   pub turn : Turn
 
--- the receiver: the registries that it knows of, its next turn, what it pushed into the queue of events, and whom it is to elicit
+-- the receiver: the registries that it knows of, its moment, its next turn, what it pushed into the queue of events, and whom it is
+-- to elicit
 pub record Receiving : Type 0 where
   pub known : History
+  pub moment : ℕ
   pub turn : Turn
   pub queue : Sent Event
   pub eliciting : Eliciting

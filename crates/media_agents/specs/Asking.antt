@@ -1,5 +1,5 @@
 -- What logs answer the conductor, each asked under the lock of its slot. Own rules.
-use Rattle.std.specs.Prelude.{◌≡◌, ℕ, ◌++◌, Bool, true, false, List, [], ◌∷◌, Option, Some, None, take}
+use Rattle.std.specs.Prelude.{◌≡◌, ℕ, ◌++◌, Bool, true, false, List, [], ◌∷◌, Option, Some, None, filter_map, take}
 use Rattle.std.specs.Option.{option_map}
 use Rattle.driver_core.specs.declared.event.End.{End}
 use Rattle.driver_core.specs.declared.event.Event.{Event}
@@ -14,6 +14,7 @@ use Rattle.log_slots.specs.Slots.{IsSlot, SlotLog, is_silent_in, log_of, reach_i
 use Rattle.media_agents.specs.declared.slots.LogAt.{LogAt}
 use Rattle.media_agents.specs.Finding.{log_at}
 use Rattle.stream_registry.specs.declared.pairs.Pair.{Pair}
+use Rattle.stream_registry.specs.declared.lingering.LogPlace.{LogPlace}
 use Rattle.stream_registry.specs.declared.row.Source.{Source}
 use Rattle.stream_registry.specs.Origins.{is_published}
 
@@ -111,6 +112,14 @@ abbrev pub Settles : (LogAt → SlotLog → SlotLog → Type 0) → State → Pa
 Settles Held s pair = SettlesAt Held s pair.source (source_at s.streams.sources pair.source)
 
 -- ---- logs that close
+
+-- where the log is that closes, as its row says; a row that the registry has not is nowhere
+abbrev pub closing_at : State → LogPlace → Option LogAt
+closing_at s place = option_map log_at (source_at s.streams.sources place.source)
+
+-- where those are that close, in their order
+abbrev pub closing : State → List LogPlace → List LogAt
+closing s closes = filter_map (closing_at s) closes
 
 -- a hold of its lock closed the log, if it was open there
 abbrev pub IsClosed : (LogAt → SlotLog → SlotLog → Type 0) → LogAt → Type 0

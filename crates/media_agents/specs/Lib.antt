@@ -6,5 +6,7 @@ pub mod Eliciting
 pub mod Finding
 pub mod Mails
 pub mod Passing
+pub mod SetUps
+pub mod Tallying
 pub mod Traffic
 pub mod Turns

@@ -15,12 +15,12 @@ next_turn worked turn = record {
   idle = if worked then 0 else one_more turn.idle;
 }
 
--- how long an agent sleeps after so many idle turns, in nanoseconds: a microsecond after 16, and twice as long after each further
+-- how long an agent sleeps after so many idle turns, in nanoseconds: a microsecond after 61, and twice as long after each further
 -- one, up to a millisecond
 abbrev pub pause_after : ℕ → ℕ
-pause_after idle = min (1000 * 2 ^ min (idle - 16) 10) 1000000
+pause_after idle = min (1000 * 2 ^ min (idle - 61) 10) 1000000
 
--- how an agent rests after so many idle turns: it spins for 10 turns, yields for 5, and then sleeps
+-- how an agent rests after so many idle turns: it spins for 10 turns, yields for 50, and then sleeps
 abbrev pub rest_after : ℕ → Rest
 rest_after idle =
-    if idle == 0 then Nothing else (if nat_le idle 10 then Spin else (if nat_le idle 15 then Yield else Sleep (pause_after idle)))
+    if idle == 0 then Nothing else (if nat_le idle 10 then Spin else (if nat_le idle 60 then Yield else Sleep (pause_after idle)))

@@ -1,13 +1,9 @@
 -- What an agent's turn does to the wire, and to the queue of events. Own rules.
 use Rattle.std.specs.Prelude.{◌≡◌, ℕ, ◌+◌, ◌≤◌, ◌⊎◌, Bool, List, [], ◌∷◌, ◌++◌, Option, Some, None, All, Contains, filter, map, take}
 use Rattle.channel_uri.specs.declared.address.Address.{Address}
-use Rattle.command_queue.specs.Sent.{Sent}
-use Rattle.driver_core.specs.declared.event.Event.{Event as Happening}
-use Rattle.driver_core.specs.declared.event.Event.TheVariants.{Setup as SetUp}
 use Rattle.driver_core.specs.declared.send_request.Outlet.{Outlet}
 use Rattle.driver_steps.specs.declared.answer.Answer.{Answer}
 use Rattle.driver_steps.specs.declared.answer.Answer.TheVariants.{Reported, Resent, Sent as Cut}
-use Rattle.frame_codec.specs.declared.setup.Setup.{Setup}
 use Rattle.media_agents.specs.declared.listing.ImageAt.{ImageAt}
 use Rattle.media_wire.specs.Events.{Event, failed, nothing, read, sent}
 use Rattle.media_wire.specs.Letters.{letter}
@@ -136,14 +132,3 @@ pub record Receives (endpoints : List Address) (images : List ImageAt) (letters 
   pub reads_each : ReadsEach endpoints heard
   pub sent_each : SentEach images told
   pub tried : AreTried letters elicited
-
--- ---- SETUPs
-
--- a SETUP that came at that moment
-abbrev pub IsSetUp : ℕ → Happening → Type 0
-IsSetUp now event = (local : Address) × (from : Address) × (setup : Setup) × (event ≡ SetUp now local from setup)
-
--- further events were pushed, each a SETUP that came at that moment
-abbrev pub SetsUp : ℕ → Sent Happening → Sent Happening → Type 0
-SetsUp now old new =
-    (more : List Happening) × All (IsSetUp now) more × (new ≡ record old { sent = old.sent ++ more })

@@ -1,5 +1,6 @@
 //! What is left to do once an entry was committed. It is taken from the entry before, since that takes memory.
 
+ghost use Rattle.media_agents.specs.Asking.{closing, closing_at};
 ghost use Rattle.std.specs.Prelude.{◌≡◌, IfOk};
 
 use crate::slots::LogAt;
@@ -19,16 +20,28 @@ pub(crate) struct Aftermath {
     pub(crate) replies: Items<Message>,
 }
 
-/// Where the logs are that close.
-fn closing(
+/// Where the log is that closes, as its row says. A row that the registry has not is nowhere.
+fn closing_one(registry: &Registry, place: LogPlace) -> Option<LogAt>
+    ensures { result ≡ closing_at registry.now place }
+{
+    match registry.source(place.source) {
+        Some(row) => Some(LogAt::of(row)),
+        None => None,
+    }
+}
+
+/// Where the logs are that close, in their order.
+fn all_closing(
     alloc: Global,
     registry: &Registry,
     closes: &[LogPlace],
-) -> Result<Items<LogAt>, AllocError> {
+) -> Result<Items<LogAt>, AllocError>
+    ensures { IfOk result (λ logs. logs ≡ closing registry.now closes.now) }
+{
     let mut logs = Items::new(alloc);
     for place in closes {
-        if let Some(row) = registry.source(place.source) {
-            logs.push(LogAt::of(row))?;
+        if let Some(at) = closing_one(registry, *place) {
+            logs.push(at)?;
         }
     }
     Ok(logs)
@@ -42,12 +55,15 @@ impl Aftermath {
         outcome: &Outcome,
     ) -> Result<Aftermath, AllocError>
         ensures response { IfOk result (λ aftermath. aftermath.response ≡ outcome.now.response) }
+        ensures opens { IfOk result (λ aftermath. aftermath.opens ≡ outcome.now.opens) }
+        ensures closes { IfOk result (λ aftermath. aftermath.closes ≡ closing registry.now outcome.now.closes) }
+        ensures gone { IfOk result (λ aftermath. aftermath.gone ≡ outcome.now.gone) }
         ensures replies { IfOk result (λ aftermath. aftermath.replies ≡ outcome.now.replies) }
     {
         Ok(Aftermath {
             response: outcome.response,
             opens: outcome.opens,
-            closes: closing(alloc, registry, outcome.closes.as_slice())?,
+            closes: all_closing(alloc, registry, outcome.closes.as_slice())?,
             gone: Items::from(Vec::from_slice(alloc, outcome.gone.as_slice())?),
             replies: Items::from(Vec::from_slice(alloc, outcome.replies.as_slice())?),
         })

@@ -7,7 +7,7 @@ ghost use Rattle.std.specs.Prelude.{◌≡◌, ◌⊎◌, []};
 use crate::listing::{ImageAt, list_controls, list_endpoints, list_images, list_publications};
 use crate::slots::LogAt;
 use channel_uri::Address;
-use driver_core::{Registry, View};
+use driver_core::{Astray, Registry, View};
 use frame_codec::{Packet, TermPlace};
 use published_registry::Pass;
 use rows::Rows;
@@ -18,10 +18,16 @@ fn image_of(
     local: &Address,
     from: &Address,
     place: &TermPlace,
-) -> Option<u64> {
-    registry
-        .image_for(local, from, place.session_id, place.stream_id)
-        .ok()
+) -> Result<u64, Astray> {
+    registry.image_for(local, from, place.session_id, place.stream_id)
+}
+
+/// The publication of a session and stream.
+fn publication_of(registry: &Registry, session: i32, stream: i32) -> Result<u64, Astray> {
+    match registry.publication_for(session, stream) {
+        Some(source) => Ok(source),
+        None => Err(Astray::NoStream),
+    }
 }
 
 /// The number of the log that a datagram is for, by the registry.
@@ -30,17 +36,19 @@ fn source_of(
     local: &Address,
     from: &Address,
     packet: &Packet<'_>,
-) -> Option<u64> {
+) -> Result<u64, Astray> {
     match packet {
         Packet::Data(frames) => {
             let mut left = *frames;
-            let frame = left.next()?;
-            image_of(registry, local, from, &frame.header.place)
+            match left.next() {
+                Some(frame) => image_of(registry, local, from, &frame.header.place),
+                None => Err(Astray::NoStream),
+            }
         }
         Packet::Beat(header) => image_of(registry, local, from, &header.place),
-        Packet::Nak(nak) => registry.publication_for(nak.session_id, nak.stream_id),
-        Packet::Sm(message) => registry.publication_for(message.session_id, message.stream_id),
-        Packet::Setup(_) => None,
+        Packet::Nak(nak) => publication_of(registry, nak.session_id, nak.stream_id),
+        Packet::Sm(message) => publication_of(registry, message.session_id, message.stream_id),
+        Packet::Setup(_) => Err(Astray::NoStream),
     }
 }
 
@@ -50,25 +58,28 @@ fn log_of(
     local: &Address,
     from: &Address,
     packet: &Packet<'_>,
-) -> Option<LogAt> {
+) -> Result<LogAt, Astray> {
     let source = source_of(registry, local, from, packet)?;
-    let row = registry.source(source)?;
-    Some(LogAt::of(row))
+    match registry.source(source) {
+        Some(row) => Ok(LogAt::of(row)),
+        None => Err(Astray::NoStream),
+    }
 }
 
-/// Where the log is that a datagram is for which came to the address `local`, from the address `from`, by a look.
+/// Where the log is that a datagram is for which came to the address `local`, from the address `from`, by a look, or why it is
+/// for none. `None` where there is no look.
 pub(crate) fn find(
     pass: Pass,
     local: &Address,
     from: &Address,
     packet: &Packet<'_>,
-) -> (Pass, Option<LogAt>)
+) -> (Pass, Option<Result<LogAt, Astray>>)
     ensures { IsContinuedBy pass result.0 }
 {
     match pass.enter() {
         Ok(look) => {
             let at = log_of(look.registry(), local, from, packet);
-            (look.leave(), at)
+            (look.leave(), Some(at))
         }
         Err(pass) => (pass, None),
     }

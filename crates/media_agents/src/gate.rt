@@ -3,8 +3,9 @@
 ghost use Rattle.media_agents.specs.Passing.{next_turn, pause_after, rest_after};
 ghost use Rattle.std.specs.Prelude.{◌≡◌, ◌<◌};
 
+use log_slots::rest;
+use std::thread;
 use std::time::{Clock, Duration};
-use std::{hint, thread};
 
 /// One of the agents that run a driver.
 #[derive(Clone, Copy, Debug, PartialEq, Eq)]
@@ -60,13 +61,16 @@ pub trait Gate {
 const SPINS: u64 = 10;
 
 /// How many idle turns an agent spins and yields, before it sleeps.
-const YIELDS: u64 = 15;
+const YIELDS: u64 = 60;
 
 /// How long an agent sleeps the first time, in nanoseconds. Each further idle turn doubles it.
 const SHORTEST: u64 = 1_000;
 
 /// How long an agent sleeps at most, in nanoseconds.
 const LONGEST: u64 = 1_000_000;
+
+/// How many steps an agent that spins rests before a turn: a quarter of a microsecond.
+const STEPS: u32 = 32;
 
 /// How an agent rests before a turn.
 #[derive(Clone, Copy, Debug, PartialEq, Eq)]
@@ -80,7 +84,7 @@ pub enum Rest {
 
 /// How long an agent sleeps after so many idle turns, in nanoseconds.
 fn pause_after(idle: u64) -> u64
-    requires { 15 < idle }
+    requires { 60 < idle }
     ensures { result ≡ pause_after idle }
 {
     let doubled = (idle - YIELDS - 1).min(10);
@@ -123,7 +127,7 @@ impl<C: Clock> Gate for Backoff<C> {
     fn pass(&self, _agent: Agent, turn: Turn) {
         match rest_after(turn.idle) {
             Rest::Nothing => {}
-            Rest::Spin => hint::spin_loop(),
+            Rest::Spin => rest(STEPS),
             Rest::Yield => thread::yield_now(),
             Rest::Sleep(nanoseconds) => {
                 thread::sleep(&self.clock, Duration::from_nanos(nanoseconds));

@@ -1,26 +1,34 @@
 //! One datagram, and the log that it is for.
 
 ghost use Rattle.driver_steps.specs.Packets.{IsSoundContent};
-ghost use Rattle.frame_codec.specs.Datagram.{content};
+ghost use Rattle.driver_core.specs.declared.event.Event.TheVariants.{Setup as SetUp};
+ghost use Rattle.frame_codec.specs.Datagram.{content, packet_of};
 ghost use Rattle.published_registry.specs.Histories.{IsContinuedBy};
-ghost use Rattle.media_agents.specs.Traffic.{AreSentFrom, GoesOn, SetsUp};
+ghost use Rattle.media_agents.specs.SetUps.{Goes, IsLost, SetsUpIfRead};
+ghost use Rattle.media_agents.specs.Traffic.{AreSentFrom, GoesOn};
+ghost use Rattle.std.specs.Prelude.{MatchBool};
 
 use crate::finding::find;
-use crate::posting::EventSender;
+use crate::set_ups::SetUps;
 use crate::slots::Slots;
 use crate::telling::tell;
 use channel_uri::Address;
-use driver_core::{Event, View};
-use driver_steps::{Answer, packet_request};
+use driver_core::{Astray, Event, View};
+use driver_steps::{Answer, Cause, packet_request};
 use frame_codec::{Datagram, Packet, Setup, frames_are_of_one_term, frames_are_told};
-use log_slots::{LogSlot, Naming, Slot};
+use log_slots::{LogSlot, Naming, Slot, lock_soon};
 use media_wire::Wire;
 use published_registry::Pass;
 use std::alloc::Global;
 use std::sync::{Mutex, Wait};
 
+/// It is for no log, or from a stranger.
+fn strayed(why: Astray) -> Answer {
+    Answer::Dropped(Cause::Astray(why))
+}
+
 /// One hold of a publication's lock, with one look within it: a datagram comes to its log, as the registry of the look says.
-/// What comes of it is `None` where there is no look or no memory, or the datagram is for no log.
+/// What comes of it is `None` where there is no look.
 fn come_to_publication<N: Naming, R: Wait>(
     rt: &R,
     slot: &Mutex<Slot<N>>,
@@ -34,17 +42,17 @@ fn come_to_publication<N: Naming, R: Wait>(
     requires { IsSoundContent (content packet) }
     ensures { IsContinuedBy pass result.0 }
 {
-    let mut slot = slot.lock(rt);
+    let mut slot = lock_soon(rt, slot);
     match pass.enter() {
         Ok(look) => {
             let answer = match packet_request(&look, local, from, &packet) {
                 Ok(request) => match slot.packet(alloc, now, from, packet, &request) {
-                    Ok(told) => Some(told.answer),
-                    Err(_) => None,
+                    Ok(told) => told.answer,
+                    Err(_) => Answer::NoMemory,
                 },
-                Err(_) => None,
+                Err(why) => strayed(why),
             };
-            (look.leave(), answer)
+            (look.leave(), Some(answer))
         }
         Err(pass) => (pass, None),
     }
@@ -60,19 +68,23 @@ fn come_to_image<N: Naming, R: Wait>(
     local: &Address,
     from: &Address,
     packet: Packet<'_>,
-) -> Pass
+) -> (Pass, Option<Answer>)
     requires { IsSoundContent (content packet) }
-    ensures { IsContinuedBy pass result }
+    ensures { IsContinuedBy pass result.0 }
 {
-    let mut slot = slot.lock(rt);
+    let mut slot = lock_soon(rt, slot);
     match pass.enter() {
         Ok(look) => {
-            if let Ok(request) = packet_request(&look, local, from, &packet) {
-                drop(slot.packet(alloc, now, from, packet, &request));
-            }
-            look.leave()
+            let answer = match packet_request(&look, local, from, &packet) {
+                Ok(request) => match slot.packet(alloc, now, from, packet, &request) {
+                    Ok(told) => told.answer,
+                    Err(_) => Answer::NoMemory,
+                },
+                Err(why) => strayed(why),
+            };
+            (look.leave(), Some(answer))
         }
-        Err(pass) => pass,
+        Err(pass) => (pass, None),
     }
 }
 
@@ -90,9 +102,13 @@ fn hear_publication<N: Naming, R: Wait>(
     requires { IsSoundContent (content packet) }
     ensures { IsContinuedBy pass result.0 }
 {
-    let (pass, at) = find(pass, local, from, &packet);
-    let Some(at) = at else {
+    let (pass, found) = find(pass, local, from, &packet);
+    let Some(found) = found else {
         return (pass, None);
+    };
+    let at = match found {
+        Ok(at) => at,
+        Err(why) => return (pass, Some(strayed(why))),
     };
     match slots.publications.get(at.slot as usize) {
         Some(slot) => come_to_publication(rt, slot, pass, alloc, now, local, from, packet),
@@ -100,8 +116,36 @@ fn hear_publication<N: Naming, R: Wait>(
     }
 }
 
-/// The frames of data, or a heartbeat, come to the image that they are for.
+/// The frames of data, or a heartbeat, come to the image that they are for. What comes of them.
 fn hear_image<N: Naming, R: Wait>(
+    rt: &R,
+    slots: &Slots<N>,
+    pass: Pass,
+    alloc: Global,
+    now: u64,
+    local: &Address,
+    from: &Address,
+    packet: Packet<'_>,
+) -> (Pass, Option<Answer>)
+    requires { IsSoundContent (content packet) }
+    ensures { IsContinuedBy pass result.0 }
+{
+    let (pass, found) = find(pass, local, from, &packet);
+    let Some(found) = found else {
+        return (pass, None);
+    };
+    let at = match found {
+        Ok(at) => at,
+        Err(why) => return (pass, Some(strayed(why))),
+    };
+    match slots.images.get(at.slot as usize) {
+        Some(slot) => come_to_image(rt, slot, pass, alloc, now, local, from, packet),
+        None => (pass, None),
+    }
+}
+
+/// The frames of data, or a heartbeat, come to the image that they are for. It is counted where they are dropped.
+fn take_image<N: Naming, R: Wait>(
     rt: &R,
     slots: &Slots<N>,
     pass: Pass,
@@ -114,14 +158,11 @@ fn hear_image<N: Naming, R: Wait>(
     requires { IsSoundContent (content packet) }
     ensures { IsContinuedBy pass result }
 {
-    let (pass, at) = find(pass, local, from, &packet);
-    let Some(at) = at else {
-        return pass;
-    };
-    match slots.images.get(at.slot as usize) {
-        Some(slot) => come_to_image(rt, slot, pass, alloc, now, local, from, packet),
-        None => pass,
+    let (pass, answer) = hear_image(rt, slots, pass, alloc, now, local, from, packet);
+    if let Some(answer) = answer {
+        slots.note_answer(rt, &answer, from);
     }
+    pass
 }
 
 /// A datagram came to the address `at`, where the sender reads. NAKs and status messages are its steps, and what a NAK asks for
@@ -144,11 +185,16 @@ pub(crate) fn hear_as_sender<N: Naming, R: Wait, W: Wire>(
     let packet = match Datagram::read(bytes) {
         Ok(Packet::Nak(nak)) => Packet::Nak(nak),
         Ok(Packet::Sm(message)) => Packet::Sm(message),
-        _ => return pass,
+        _ => {
+            slots.note_unread(rt, bytes, from);
+            return pass;
+        }
     };
+    slots.note_nak(rt, &packet);
     let (pass, answer) = hear_publication(rt, slots, pass, alloc, now, at, from, packet);
     match answer {
         Some(answer) => {
+            slots.note_answer(rt, &answer, from);
             tell(wire, local, &answer);
             pass
         }
@@ -156,16 +202,16 @@ pub(crate) fn hear_as_sender<N: Naming, R: Wait, W: Wire>(
     }
 }
 
-/// A SETUP goes to the conductor. It is lost where the queue is full.
+/// A SETUP goes to the conductor, or is lost, as [`SetUps::push`] says. Whether it goes.
 fn set_up<R: Wait>(
     rt: &R,
-    queue: &mut EventSender,
+    set_ups: &mut SetUps,
     now: u64,
     local: &Address,
     from: &Address,
     setup: Setup,
-)
-    ensures { SetsUp now queue.old queue.new }
+) -> bool
+    ensures { MatchBool result (Goes (SetUp now local.now from.now setup) set_ups.old set_ups.new) (IsLost set_ups.old set_ups.new) }
 {
     let event = Event::Setup {
         now,
@@ -173,10 +219,7 @@ fn set_up<R: Wait>(
         from: *from,
         setup,
     };
-    match queue.push(rt, event) {
-        Ok(()) => {}
-        Err(refused) => drop(refused),
-    }
+    set_ups.push(rt, event)
 }
 
 /// A datagram came to an address where subscriptions take them. Data and heartbeats are the receiver's steps, and a SETUP is
@@ -185,7 +228,7 @@ pub(crate) fn hear_as_receiver<N: Naming, R: Wait>(
     rt: &R,
     slots: &Slots<N>,
     pass: Pass,
-    queue: &mut EventSender,
+    set_ups: &mut SetUps,
     alloc: Global,
     now: u64,
     local: &Address,
@@ -193,13 +236,13 @@ pub(crate) fn hear_as_receiver<N: Naming, R: Wait>(
     bytes: &[u8],
 ) -> Pass
     ensures known { IsContinuedBy pass result }
-    ensures queue { SetsUp now queue.old queue.new }
+    ensures set_ups { SetsUpIfRead now local.now from.now (packet_of bytes.now) set_ups.old set_ups.new }
 {
     match Datagram::read(bytes) {
         Ok(Packet::Data(frames)) => {
             frames_are_told();
             frames_are_of_one_term();
-            hear_image(
+            take_image(
                 rt,
                 slots,
                 pass,
@@ -211,7 +254,7 @@ pub(crate) fn hear_as_receiver<N: Naming, R: Wait>(
             )
         }
         Ok(Packet::Beat(header)) => {
-            hear_image(
+            take_image(
                 rt,
                 slots,
                 pass,
@@ -223,9 +266,14 @@ pub(crate) fn hear_as_receiver<N: Naming, R: Wait>(
             )
         }
         Ok(Packet::Setup(setup)) => {
-            set_up(rt, queue, now, local, from, setup);
+            if !set_up(rt, set_ups, now, local, from, setup) {
+                slots.note_lost(rt, from);
+            }
             pass
         }
-        _ => pass,
+        _ => {
+            slots.note_unread(rt, bytes, from);
+            pass
+        }
     }
 }

@@ -2,7 +2,7 @@
 
 ghost use Rattle.driver_core.specs.Conduct.{outcome_of, state_after};
 ghost use Rattle.driver_core.specs.Soundness.{IsSound};
-ghost use Rattle.media_agents.specs.Asking.{AreSilent, Gathers, Joins};
+ghost use Rattle.media_agents.specs.Asking.{AreSilent, Gathers, Joins, closing};
 ghost use Rattle.published_registry.specs.Histories.{IsPlannedOn};
 ghost use Rattle.std.specs.Prelude.{◌≡◌, [], IfOk};
 
@@ -57,6 +57,9 @@ fn make_ready(
 ) -> Result<Planned, AllocError>
     ensures entry { IfOk result (λ planned. planned.entry ≡ entry) }
     ensures response { IfOk result (λ planned. planned.aftermath.response ≡ entry.outcome.response) }
+    ensures opens { IfOk result (λ planned. planned.aftermath.opens ≡ entry.outcome.opens) }
+    ensures closes { IfOk result (λ planned. planned.aftermath.closes ≡ closing registry.now entry.outcome.closes) }
+    ensures gone { IfOk result (λ planned. planned.aftermath.gone ≡ entry.outcome.gone) }
     ensures replies { IfOk result (λ planned. planned.aftermath.replies ≡ entry.outcome.replies) }
 {
     let aftermath = Aftermath::of(alloc, registry, &entry.outcome)?;
@@ -80,6 +83,9 @@ fn plan_with(
     ensures event_is { IfOk result (λ ready. ready.entry.event ≡ event.now) }
     ensures inputs { IfOk result (λ ready. ready.entry.inputs ≡ record { silent = silent.now; ends = ends }) }
     ensures response { IfOk result (λ ready. ready.aftermath.response ≡ ready.entry.outcome.response) }
+    ensures opens { IfOk result (λ ready. ready.aftermath.opens ≡ ready.entry.outcome.opens) }
+    ensures closes { IfOk result (λ ready. ready.aftermath.closes ≡ closing registry.now ready.entry.outcome.closes) }
+    ensures gone { IfOk result (λ ready. ready.aftermath.gone ≡ ready.entry.outcome.gone) }
     ensures replies { IfOk result (λ ready. ready.aftermath.replies ≡ ready.entry.outcome.replies) }
 {
     let entry = plan_at(alloc, registry, event, silent, ends)?;
@@ -141,6 +147,9 @@ pub(crate) fn plan_joined<N: Naming, L: Logs<N>, R: Wait>(
     ensures silent { IfOk result (λ ready. ready.entry.inputs.silent ≡ foreseen.now.silent) }
     ensures ends { IfOk result (λ ready. Gathers (Joins (L.held logs.now) registry.now foreseen.now.come) foreseen.now.come ready.entry.inputs.ends) }
     ensures response { IfOk result (λ ready. ready.aftermath.response ≡ ready.entry.outcome.response) }
+    ensures opens { IfOk result (λ ready. ready.aftermath.opens ≡ ready.entry.outcome.opens) }
+    ensures closes { IfOk result (λ ready. ready.aftermath.closes ≡ closing registry.now ready.entry.outcome.closes) }
+    ensures gone { IfOk result (λ ready. ready.aftermath.gone ≡ ready.entry.outcome.gone) }
     ensures replies { IfOk result (λ ready. ready.aftermath.replies ≡ ready.entry.outcome.replies) }
 {
     let ends = join(rt, alloc, logs, registry, room, foreseen.come.as_slice())?;

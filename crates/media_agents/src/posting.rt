@@ -1,9 +1,9 @@
 //! Who pushes events into a driver's queue.
 
 ghost use Rattle.command_queue.specs.declared.known.Facts.{Facts};
-ghost use Rattle.command_queue.specs.Facts.{WasFull};
+ghost use Rattle.command_queue.specs.Facts.{DidHold, WasFull};
 ghost use Rattle.driver_core.specs.declared.event.Event.{Event as Happening};
-ghost use Rattle.std.specs.Prelude.{◌≡◌, ◌++◌, ◌∷◌, [], MatchResult, OnErr};
+ghost use Rattle.std.specs.Prelude.{◌≡◌, ◌≤◌, ◌++◌, ◌∷◌, [], MatchResult, OnErr};
 
 use command_queue::{Known, Refused, Sender};
 use driver_core::Event;
@@ -49,5 +49,15 @@ impl EventSender {
     {
         let EventSender { sender, known } = self;
         sender.push(rt, known, event)
+    }
+
+    /// How many events the queue held at one moment of the call. Others may push and take before it returns. It takes no memory.
+    pub(crate) fn len<R: Wait>(&mut self, rt: &R) -> usize
+        ensures same { self.new ≡ self.old }
+        ensures few { result ≤ 1024 }
+        ensures held { (facts : Facts Happening) × DidHold result self.old.total self.old.number self.old.sent facts }
+    {
+        let EventSender { sender, known } = self;
+        sender.len(rt, known)
     }
 }

@@ -2,9 +2,10 @@
 
 ghost use Rattle.media_agents.specs.Agents.{ReceivesBy};
 ghost use Rattle.media_agents.specs.Passing.{next_turn};
-ghost use Rattle.media_agents.specs.Traffic.{AreSentFrom, GoesOn, IsReadAt, ReadsEach, ReadsOut, SentEach, SetsUp};
+ghost use Rattle.media_agents.specs.SetUps.{SetsUp, SetsUpFew};
+ghost use Rattle.media_agents.specs.Traffic.{AreSentFrom, GoesOn, IsReadAt, ReadsEach, ReadsOut, SentEach};
 ghost use Rattle.published_registry.specs.Histories.{IsContinuedBy};
-ghost use Rattle.std.specs.Prelude.{◌≡◌, Bool, IfOk};
+ghost use Rattle.std.specs.Prelude.{◌≡◌, Bool, IfOk, max};
 
 use crate::eliciting::{Elicited, elicit};
 use crate::finding::{find_endpoints, find_images};
@@ -13,12 +14,13 @@ use crate::hearing::hear_as_receiver;
 use crate::listing::ImageAt;
 use crate::posting::EventSender;
 use crate::reading::{MOST, Room};
+use crate::set_ups::SetUps;
 use crate::slots::Slots;
 use crate::telling::tell;
 use channel_uri::Address;
 use driver_core::Event;
 use driver_steps::Answer;
-use log_slots::{LogSlot, Naming};
+use log_slots::{LogSlot, Naming, lock_soon};
 use media_wire::Wire;
 use published_registry::Pass;
 use rows::Rows;
@@ -33,7 +35,7 @@ fn hear_all<N: Naming, R: Wait, W: Wire>(
     slots: &Slots<N>,
     pass: Pass,
     wire: &mut W,
-    queue: &mut EventSender,
+    set_ups: &mut SetUps,
     room: &mut Room,
     alloc: Global,
     now: u64,
@@ -41,14 +43,16 @@ fn hear_all<N: Naming, R: Wait, W: Wire>(
 ) -> (Pass, bool)
     ensures known { IsContinuedBy pass result.0 }
     ensures wire { GoesOn (ReadsOut (IsReadAt local.now) local.now) (W.went wire.old) (W.went wire.new) }
-    ensures queue { SetsUp now queue.old queue.new }
+    ensures set_ups { SetsUp now set_ups.old set_ups.new }
 {
     let mut pass = pass;
     for count in 0..MOST {
         match room.next(wire, local) {
             Some(read) => {
                 let bytes = room.datagram(read.0);
-                pass = hear_as_receiver(rt, slots, pass, queue, alloc, now, local, &read.1, bytes);
+                pass = hear_as_receiver(
+                    rt, slots, pass, set_ups, alloc, now, local, &read.1, bytes,
+                );
             }
             None => return (pass, count > 0),
         }
@@ -62,7 +66,7 @@ fn hear_each<N: Naming, R: Wait, W: Wire>(
     slots: &Slots<N>,
     pass: Pass,
     wire: &mut W,
-    queue: &mut EventSender,
+    set_ups: &mut SetUps,
     room: &mut Room,
     alloc: Global,
     now: u64,
@@ -70,12 +74,12 @@ fn hear_each<N: Naming, R: Wait, W: Wire>(
 ) -> (Pass, bool)
     ensures known { IsContinuedBy pass result.0 }
     ensures wire { GoesOn (ReadsEach endpoints.now) (W.went wire.old) (W.went wire.new) }
-    ensures queue { SetsUp now queue.old queue.new }
+    ensures set_ups { SetsUp now set_ups.old set_ups.new }
 {
     let mut pass = pass;
     let mut worked = false;
     for endpoint in endpoints {
-        let (next, heard) = hear_all(rt, slots, pass, wire, queue, room, alloc, now, endpoint);
+        let (next, heard) = hear_all(rt, slots, pass, wire, set_ups, room, alloc, now, endpoint);
         pass = next;
         worked = worked || heard;
     }
@@ -94,7 +98,7 @@ fn report<N: Naming, R: Wait>(
 ) -> (Pass, Option<Answer>)
     ensures { IsContinuedBy pass result.0 }
 {
-    let mut slot = slot.lock(rt);
+    let mut slot = lock_soon(rt, slot);
     match pass.enter() {
         Ok(look) => {
             let answer = slot.image(&look, alloc, now, source);
@@ -132,6 +136,7 @@ fn report_one<N: Naming, R: Wait, W: Wire>(
     let (pass, answer) = report(rt, slot, pass, alloc, now, image.log.source);
     match answer {
         Some(answer) => {
+            slots.note_report(rt, &answer);
             tell(wire, &image.endpoint, &answer);
             (pass, is_due(&answer))
         }
@@ -169,7 +174,7 @@ pub struct ReceiverAgent<N: Naming, G: Gate> {
     gate: Arc<G>,
     /// It is taken out for as long as a turn lasts.
     pass: Option<Pass>,
-    queue: EventSender,
+    set_ups: SetUps,
     room: Room,
     /// Where the turn reads.
     endpoints: Rows<Address, 512>,
@@ -177,6 +182,8 @@ pub struct ReceiverAgent<N: Naming, G: Gate> {
     images: Rows<ImageAt, 512>,
     elicited: Elicited,
     alloc: Global,
+    /// The greatest moment of its turns, in nanoseconds.
+    moment: u64,
     turn: Turn,
 }
 
@@ -187,7 +194,7 @@ impl<N: Naming, G: Gate> Model for ReceiverAgent<N, G> {
 
     ghost Value = { Receiving };
 
-    ghost view = { λ agent. record { known = history_in agent.pass; turn = agent.turn; queue = agent.queue; eliciting = agent.elicited } };
+    ghost view = { λ agent. record { known = history_in agent.pass; moment = agent.moment; turn = agent.turn; queue = agent.set_ups.queue; eliciting = agent.elicited } };
 
     ghost invariant = { λ agent. IsSome agent.pass };
 }
@@ -202,39 +209,45 @@ impl<N: Naming, G: Gate + Drop> ReceiverAgent<N, G> {
         queue: EventSender,
         elicited: Elicited,
     ) -> Result<ReceiverAgent<N, G>, AllocError>
-        ensures { IfOk result (λ agent. agent ≡ record { known = pass; turn = record { number = 0; idle = 0 }; queue = queue; eliciting = elicited }) }
+        ensures { IfOk result (λ agent. agent ≡ record { known = pass; moment = 0; turn = record { number = 0; idle = 0 }; queue = queue; eliciting = elicited }) }
     {
         Ok(ReceiverAgent {
             slots,
             gate,
             pass: Some(pass),
-            queue,
+            set_ups: SetUps::new(queue),
             room: Room::new(alloc)?,
             endpoints: Rows::new(alloc)?,
             images: Rows::new(alloc)?,
             elicited,
             alloc,
+            moment: 0,
             turn: Turn::first(),
         })
     }
 
-    /// A turn, at the moment `now` in nanoseconds, once the gate lets it pass. At each address where subscriptions of a look
+    /// A turn, at the moment `now` in nanoseconds, once the gate lets it pass. Where an earlier turn had a later moment, that
+    /// counts. At each address where subscriptions of a look
     /// take datagrams those that came are read, 1,024 at most: data and heartbeats are steps on their image, and a SETUP is
-    /// pushed as an event, or lost where the queue is full. Then each image of a second look has one step, in the order of
-    /// their numbers. Each step is one hold of the log's lock, with one look within it; the datagrams of its answer go out from
+    /// pushed as an event, or lost where 64 were pushed in this turn, or fewer than half of the queue's places are free. Then
+    /// each image of a second look has one step, in the order of their numbers. Each step is one hold of the log's lock, with one look within it; the datagrams of its answer go out from
     /// the address at which the image reads, once the lock is let go, and a send that fails is a datagram lost. At last one
     /// that was handed over joins those that are to be elicited, and for each of these that is due by a third look a status
     /// message goes out.
     pub fn turn<R: Wait, W: Wire>(&mut self, rt: &R, wire: &mut W, now: u64)
         ensures known { IsContinuedBy self.old.known self.new.known }
         ensures turn { (worked : Bool) × (self.new.turn ≡ next_turn worked self.old.turn) }
-        ensures queue { SetsUp now self.old.queue self.new.queue }
-        ensures wire { ReceivesBy now self.old self.new (W.went wire.old) (W.went wire.new) }
+        ensures moment { self.new.moment ≡ max now self.old.moment }
+        ensures queue { SetsUpFew self.new.moment self.old.queue self.new.queue }
+        ensures wire { ReceivesBy self.new.moment self.old self.new (W.went wire.old) (W.went wire.new) }
     {
         self.gate.pass(Agent::Receiver, self.turn);
         let Some(pass) = self.pass.take() else {
             unreachable!()
         };
+        let moment = now.max(self.moment);
+        self.moment = moment;
+        self.set_ups.begin();
         let pass = find_endpoints(pass, &mut self.endpoints);
         let endpoints = self.endpoints.as_slice();
         let (pass, heard) = hear_each(
@@ -242,16 +255,16 @@ impl<N: Naming, G: Gate + Drop> ReceiverAgent<N, G> {
             &self.slots,
             pass,
             wire,
-            &mut self.queue,
+            &mut self.set_ups,
             &mut self.room,
             self.alloc,
-            now,
+            moment,
             endpoints,
         );
         let pass = find_images(pass, &mut self.images);
         let images = self.images.as_slice();
-        let (pass, due) = report_each(rt, &self.slots, pass, wire, self.alloc, now, images);
-        let pass = elicit(pass, wire, &mut self.elicited, now);
+        let (pass, due) = report_each(rt, &self.slots, pass, wire, self.alloc, moment, images);
+        let pass = elicit(pass, wire, &mut self.elicited, moment);
         wire.turn_ended();
         self.pass = Some(pass);
         self.turn = self.turn.next(heard || due);

@@ -14,7 +14,7 @@ use crate::slots::{LogAt, Slots};
 use crate::telling::tell;
 use channel_uri::Address;
 use driver_steps::Answer;
-use log_slots::{Naming, Slot};
+use log_slots::{Naming, Slot, lock_soon};
 use media_wire::Wire;
 use published_registry::Pass;
 use rows::Rows;
@@ -87,7 +87,7 @@ fn cut<N: Naming, R: Wait>(
 ) -> (Pass, Option<Answer>)
     ensures { IsContinuedBy pass result.0 }
 {
-    let mut slot = slot.lock(rt);
+    let mut slot = lock_soon(rt, slot);
     match pass.enter() {
         Ok(look) => {
             let answer = slot.send(&look, alloc, now, source);
@@ -117,6 +117,7 @@ fn send_one<N: Naming, R: Wait, W: Wire>(
     let (pass, answer) = cut(rt, slot, pass, alloc, now, at.source);
     match answer {
         Some(answer) => {
+            slots.note_withheld(rt, &answer);
             tell(wire, local, &answer);
             (pass, matches!(answer, Answer::Sent { .. }))
         }
@@ -124,7 +125,35 @@ fn send_one<N: Naming, R: Wait, W: Wire>(
     }
 }
 
-/// One step on each of these logs, in their order. Whether anything was due.
+/// How many datagrams of one log go out in a turn at most.
+const BURST: u32 = 16;
+
+/// Steps on one log, one after another: until nothing is due, or so many had something due. Whether anything was.
+fn send_run<N: Naming, R: Wait, W: Wire>(
+    rt: &R,
+    slots: &Slots<N>,
+    pass: Pass,
+    wire: &mut W,
+    alloc: Global,
+    now: u64,
+    local: &Address,
+    at: LogAt,
+) -> (Pass, bool)
+    ensures known { IsContinuedBy pass result.0 }
+    ensures wire { GoesOn (AreSentFrom local.now) (W.went wire.old) (W.went wire.new) }
+{
+    let mut pass = pass;
+    for count in 0..BURST {
+        let (next, sent) = send_one(rt, slots, pass, wire, alloc, now, local, at);
+        if !sent {
+            return (next, count > 0);
+        }
+        pass = next;
+    }
+    (pass, true)
+}
+
+/// The steps that are due on each of these logs, in their order. Whether any was.
 fn send_each<N: Naming, R: Wait, W: Wire>(
     rt: &R,
     slots: &Slots<N>,
@@ -141,7 +170,7 @@ fn send_each<N: Naming, R: Wait, W: Wire>(
     let mut pass = pass;
     let mut worked = false;
     for at in logs {
-        let (next, sent) = send_one(rt, slots, pass, wire, alloc, now, local, *at);
+        let (next, sent) = send_run(rt, slots, pass, wire, alloc, now, local, *at);
         pass = next;
         worked = worked || sent;
     }
@@ -204,9 +233,10 @@ impl<N: Naming, G: Gate + Drop> SenderAgent<N, G> {
 
     /// A turn, at the moment `now` in nanoseconds, once the gate lets it pass. The datagrams that came to the address that it
     /// sends from are read, 1,024 at most, and then those at each address where publications of a look learn their destinations:
-    /// a NAK or a status message is a step on its publication. Then each publication over datagrams of a second look has one
-    /// step, in the order of their numbers. Each step is one hold of the log's lock, with one look within it; the datagrams of
-    /// its answer go out once the lock is let go, and a send that fails is a datagram lost.
+    /// a NAK or a status message is a step on its publication. Then each publication over datagrams of a second look has its
+    /// steps, in the order of their numbers: one after another until nothing is due, 16 at most. Each step is one hold of the
+    /// log's lock, with one look within it; the datagrams of its answer go out once the lock is let go, and a send that fails is
+    /// a datagram lost.
     pub fn turn<R: Wait, W: Wire>(&mut self, rt: &R, wire: &mut W, now: u64)
         ensures known { IsContinuedBy self.old.known self.new.known }
         ensures local { self.new.local ≡ self.old.local }

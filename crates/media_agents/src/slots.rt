@@ -6,7 +6,8 @@ ghost use Rattle.media_agents.specs.Finding.{log_at};
 ghost use Rattle.std.specs.Prelude.{◌≡◌, ◌≤◌, length, IfErr, IfSome};
 
 use driver_steps::OpenLog;
-use log_slots::{LogSlot, Naming, Slot};
+use drop_tallies::Tallies;
+use log_slots::{LogSlot, Naming, Slot, lock_soon};
 use std::sync::{Mutex, Wait};
 use stream_registry::Source;
 
@@ -59,6 +60,8 @@ pub trait Logs<N: Naming> {
 pub struct Slots<N: Naming> {
     pub publications: Vec<Mutex<Slot<N>>>,
     pub images: Vec<Mutex<LogSlot<N>>>,
+    /// What the sender and the receiver dropped, lost or kept back. The lock is taken last, and for one row.
+    pub tallies: Mutex<Tallies>,
 }
 
 /// Exactly these subscriptions read the log of that publication, if it is open here.
@@ -124,12 +127,12 @@ impl<N: Naming> Logs<N> for Slots<N> {
         let slot = at.slot as usize;
         if at.published {
             match self.publications.get(slot) {
-                Some(it) => rejoin_publication(&mut *it.lock(rt), at.source, subscriptions),
+                Some(it) => rejoin_publication(&mut *lock_soon(rt, it), at.source, subscriptions),
                 None => None,
             }
         } else {
             match self.images.get(slot) {
-                Some(it) => rejoin_image(&mut *it.lock(rt), at.source, subscriptions),
+                Some(it) => rejoin_image(&mut *lock_soon(rt, it), at.source, subscriptions),
                 None => None,
             }
         }
@@ -137,7 +140,7 @@ impl<N: Naming> Logs<N> for Slots<N> {
 
     fn is_silent<R: Wait>(&self, rt: &R, at: LogAt, now: u64, limit: u64) -> bool {
         match self.images.get(at.slot as usize) {
-            Some(it) => ask_image(&*it.lock(rt), at.source, now, limit),
+            Some(it) => ask_image(&*lock_soon(rt, it), at.source, now, limit),
             None => false,
         }
     }
@@ -146,12 +149,12 @@ impl<N: Naming> Logs<N> for Slots<N> {
         let slot = at.slot as usize;
         if at.published {
             match self.publications.get(slot) {
-                Some(it) => close_publication(&mut *it.lock(rt), at.source),
+                Some(it) => close_publication(&mut *lock_soon(rt, it), at.source),
                 None => None,
             }
         } else {
             match self.images.get(slot) {
-                Some(it) => close_image(&mut *it.lock(rt), at.source),
+                Some(it) => close_image(&mut *lock_soon(rt, it), at.source),
                 None => None,
             }
         }
@@ -176,12 +179,12 @@ impl<N: Naming> Slots<N> {
         let slot = at.slot as usize;
         if at.published {
             match self.publications.get(slot) {
-                Some(it) => it.lock(rt).open(log, session, stream),
+                Some(it) => lock_soon(rt, it).open(log, session, stream),
                 None => Err(log),
             }
         } else {
             match self.images.get(slot) {
-                Some(it) => it.lock(rt).open(log, session, stream),
+                Some(it) => lock_soon(rt, it).open(log, session, stream),
                 None => Err(log),
             }
         }

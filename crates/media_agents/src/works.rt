@@ -311,12 +311,13 @@ impl<N: DriverNaming> Works<N> {
         }
     }
 
-    /// An event that is a question is answered with the response of its entry, once that is shown. Its replies went out before.
+    /// A SETUP that makes no image is counted. An event that is a question is answered with the response of its entry, once that is shown. Its replies went out before.
     fn answer<R: Wait>(&mut self, rt: &R, event: &Event, response: Response, receipt: Receipt)
         requires ours { receipt.book ≡ N.book }
         requires answer { Answers event.now response receipt.entries }
         ensures { self.new ≡ self.old }
     {
+        self.slots.note_set_up(rt, event, &response);
         if let Some(question) = Question::of(event) {
             self.report(rt, question, Some(response), receipt);
         }

@@ -1,5 +1,6 @@
 use Rattle.std.proofs.Common.{take}
-use Rattle.media_agents.specs.Traffic.{GoesOn, ReadsEach, SetsUp}
+use Rattle.media_agents.specs.SetUps.{SetsUp}
+use Rattle.media_agents.specs.Traffic.{GoesOn, ReadsEach}
 use Rattle.published_registry.specs.Histories.{IsContinuedBy}
 use Rattle.media_agents.proofs.receiving.hear_each.Given as goal
 
@@ -7,5 +8,5 @@ abbrev pub invariant-loop-endpoint : goal.invariant-loop-endpoint
 invariant-loop-endpoint g l = record {
   known : IsContinuedBy l.fn.pass l.pass;
   wire : GoesOn (ReadsEach (take l.endpoint-index l.endpoints)) (g.W.Wire.went l.fn.wire) (g.W.Wire.went l.wire);
-  queue : SetsUp l.now l.fn.queue l.queue;
+  set_ups : SetsUp l.now l.fn.set_ups l.set_ups;
 }

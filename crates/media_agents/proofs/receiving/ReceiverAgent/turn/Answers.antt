@@ -1,6 +1,7 @@
 use Rattle.std.proofs.Common.{◌≡◌, ◌⊎◌, List, [], ap, subst, sym, ◌∙◌}
 use Rattle.channel_uri.specs.declared.address.Address.{Address}
 use Rattle.media_agents.proofs.LookLemmas.{continues, stays_known}
+use Rattle.media_agents.proofs.SetUpLemmas.{few_in_turn}
 use Rattle.media_agents.proofs.TrafficLemmas.{turn_ends, turn_receives}
 use Rattle.media_agents.specs.Agents.{Receiving}
 use Rattle.media_agents.specs.declared.listing.ImageAt.{ImageAt}
@@ -10,6 +11,11 @@ use Rattle.media_agents.specs.Traffic.{Receives}
 use Rattle.media_agents.proofs.receiving.ReceiverAgent.turn.Goals as goal
 use Rattle.media_wire.specs.declared.letter.Letter.{Letter}
 use Rattle.published_registry.specs.Histories.{History, IsContinuedBy, history_in, registry_of}
+
+pub returns-clause-queue : goal.returns-clause-queue
+returns-clause-queue g c =
+    few_in_turn c.max-moment.result c.self.inside.set_ups c.begin.new.self c.hear_each-pass.new.set_ups c.args.self.now.queue c.begin.ensures
+    (ap (λ (agent : Receiving). agent.queue) c.self.view_is) c.hear_each-pass.ensures.set_ups
 
 pub returns-clause-wire : goal.returns-clause-wire
 returns-clause-wire g c =
@@ -35,7 +41,7 @@ returns-clause-wire g c =
       third = third;
       last = continues c.report_each-pass.ensures.known c.elicit-pass.ensures.known;
       letters = letters;
-      elicits = subst (λ (old : Eliciting). Elicits c.args.now third old c.elicit-pass.new.elicited letters)
+      elicits = subst (λ (old : Eliciting). Elicits c.max-moment.result third old c.elicit-pass.new.elicited letters)
           (ap (λ (agent : Receiving). agent.eliciting) c.self.view_is) asked.1;
       earlier = stays_known third;
       wire = turn_ends (Receives endpoints images letters) (went c.args.wire.now) (went c.elicit-pass.new.wire) (went c.turn_ended.new.self)
