@@ -66,7 +66,7 @@ static ANSWERS: [Row; 6] = [
         "allowed by default in policy 1",
         false,
     ),
-    (OPEN, "aeron:tcp", -1, 0, "invalid channel", true),
+    (OPEN, "aeron:tcp", -1, 0, "invalid channel: bad media", true),
     (
         LATE,
         "aeron:ipc",

@@ -8,10 +8,11 @@ mod machine;
 mod sharing;
 
 use crate::machine::Machine;
-use crate::sharing::{OPEN, policy, share};
+use crate::sharing::{OPEN, names, policy, share};
 use driver_core::Settings;
 use media_driver::{Driver, DriverNaming, MachineClock, Parts};
 use media_wire::{Udp, Wire};
+use policy_text::Names;
 use std::marker::Brand;
 use std::process::ExitCode;
 
@@ -21,6 +22,7 @@ const SOCKETS: usize = 769;
 /// Starts the driver, lets its clients talk, and stops it. How many messages were taken is answered.
 fn serve<N: DriverNaming + Send + Sync + 'static, R: Machine, W: Wire + Drop + Send + 'static>(
     rt: R,
+    names: &Names,
     parts: Parts,
     wire: W,
 ) -> Result<u64, &'static str>
@@ -36,7 +38,7 @@ fn serve<N: DriverNaming + Send + Sync + 'static, R: Machine, W: Wire + Drop + S
         return Err("no driver");
     };
     let mut clients = Vec::new(rt.alloc());
-    let shared = share(&rt, &mut driver, &mut clients);
+    let shared = share(&rt, names, &mut driver, &mut clients);
     let messages = driver.stop(clients);
     shared?;
     messages.ok_or("a client did not come back")
@@ -44,9 +46,10 @@ fn serve<N: DriverNaming + Send + Sync + 'static, R: Machine, W: Wire + Drop + S
 
 /// Makes the parts of the driver under the first policy, and serves.
 fn run<R: Machine, W: Wire + Drop + Send + 'static>(rt: R, wire: W) -> Result<u64, &'static str> {
-    let policy = policy(rt.alloc(), OPEN)?;
+    let names = names(rt.alloc())?;
+    let policy = policy(rt.alloc(), &names, OPEN)?;
     match Parts::make(&rt, rt.alloc(), Settings::default(), policy, &[]) {
-        Ok(parts) => serve::<Brand, R, W>(rt, parts, wire),
+        Ok(parts) => serve::<Brand, R, W>(rt, &names, parts, wire),
         Err(_) => Err("no parts"),
     }
 }

@@ -3,6 +3,7 @@
 use driver_core::Reply;
 use media_driver::{Client, ClientReply, Clock, Driver, DriverNaming, PollFault};
 use policy_core::Policy;
+use policy_text::Names;
 use std::alloc::Global;
 use std::sync::Wait;
 use std::thread;
@@ -43,12 +44,14 @@ allow = false
 /// How often a reply or a message is looked for.
 const TRIES: u32 = 10_000_000;
 
-/// The policy that the text is, where principals are `nobody` and `p1` to `p63`.
-pub(crate) fn policy(alloc: Global, text: &str) -> Result<Policy, &'static str> {
-    let Ok(names) = policy_query::principals(alloc) else {
-        return Err("no memory");
-    };
-    policy_text::read(alloc, text, &names).map_err(|_| "no policy")
+/// The names of principals: `nobody` and `p1` to `p63`.
+pub(crate) fn names(alloc: Global) -> Result<Names, &'static str> {
+    policy_query::principals(alloc).map_err(|_| "no memory")
+}
+
+/// The policy that the text is.
+pub(crate) fn policy(alloc: Global, names: &Names, text: &str) -> Result<Policy, &'static str> {
+    policy_text::read(alloc, text, names).map_err(|_| "no policy")
 }
 
 /// A client attaches that acts for this principal, and joins the others.
@@ -110,8 +113,13 @@ fn reload<
     N: DriverNaming + Send + Sync + 'static,
     R: Threads + Wait + Copy + Drop + Send + Sync + 'static,
     C: Clock + Copy + Drop + Send + 'static,
->(driver: &mut Driver<N, R, C>, client: &mut Client<N, C>, text: &str) -> Result<(), &'static str> {
-    match driver.reload(text) {
+>(
+    driver: &mut Driver<N, R, C>,
+    client: &mut Client<N, C>,
+    names: &Names,
+    text: &str,
+) -> Result<(), &'static str> {
+    match driver.reload(names, text) {
         Ok(receipt) => {
             client.learn(&receipt);
             Ok(())
@@ -168,6 +176,7 @@ fn talk<
     C: Clock + Copy + Drop + Send + 'static,
 >(
     rt: &R,
+    names: &Names,
     driver: &mut Driver<N, R, C>,
     gateway: &mut Client<N, C>,
     desk: &mut Client<N, C>,
@@ -179,7 +188,7 @@ fn talk<
     offer(rt, gateway, publication, b"bid 99")?;
     polled(rt, desk, subscription, publication)?;
 
-    reload(driver, desk, SHUT)?;
+    reload(driver, desk, names, SHUT)?;
     polled(rt, desk, subscription, publication)
 }
 
@@ -190,13 +199,14 @@ pub(crate) fn share<
     C: Clock + Copy + Drop + Send + 'static,
 >(
     rt: &R,
+    names: &Names,
     driver: &mut Driver<N, R, C>,
     clients: &mut Vec<Client<N, C>>,
 ) -> Result<(), &'static str> {
     attach(driver, 1, clients)?;
     attach(driver, 2, clients)?;
     match clients.as_mut_slice() {
-        [gateway, desk] => talk(rt, driver, gateway, desk),
+        [gateway, desk] => talk(rt, names, driver, gateway, desk),
         _ => Err("no client"),
     }
 }

@@ -69,6 +69,7 @@ impl<N: DriverNaming, R: Threads + Wait, C: Clock + Copy> Driver<N, R, C> {
             alloc: self.alloc,
             offered: None,
             polled: None,
+            pace: 0,
         };
         client.learn(receipt);
         client

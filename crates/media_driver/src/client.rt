@@ -3,6 +3,7 @@
 ghost use Rattle.media_driver.specs.Clients.{Learns};
 ghost use Rattle.std.specs.Prelude.{◌≡◌, ◌≤◌};
 
+use crate::offering::Found;
 use decision_cache::Cache;
 use log_slots::{AtEnd, OfClients, Totals};
 use media_agents::{Clock, DriverNaming, EventSender, LogAt, Mail, Slots};
@@ -38,9 +39,11 @@ pub struct Client<N: DriverNaming, C: Clock> {
     pub(crate) clock: C,
     pub(crate) alloc: Global,
     /// Where the log of the last offer is, by its registration.
-    pub(crate) offered: Option<(u64, LogAt)>,
+    pub(crate) offered: Option<(u64, Found)>,
     /// Where the log of the last poll is.
     pub(crate) polled: Option<LogAt>,
+    /// How many steps the next poll rests first.
+    pub(crate) pace: u32,
 }
 
 impl<N: DriverNaming, C: Clock> Model for Client<N, C> {

@@ -99,6 +99,15 @@ pub enum PollFault {
     NoMemory,
 }
 
+/// Why it is not shown how far a log has come.
+#[derive(Clone, Copy, Debug, PartialEq, Eq)]
+pub enum PositionFault {
+    /// The client has no such registration or subscription, or there is no such log of it that is open.
+    Closed,
+    /// The registry gave no look, and nothing is changed.
+    NoLook,
+}
+
 /// Why counters are not shown.
 #[derive(Clone, Copy, Debug, PartialEq, Eq)]
 pub enum LookFault {

@@ -16,8 +16,10 @@ mod faults;
 mod looking;
 mod mail;
 mod offering;
+mod pacing;
 mod parts;
 mod polling;
+mod positions;
 mod preparing;
 mod reloading;
 mod seat;
@@ -31,8 +33,13 @@ pub use client::Client;
 pub use clock::{MachineClock, MachineTime};
 pub use driver::Driver;
 pub use faults::{
-    AttachFault, ClockFault, LookFault, MakeFault, OfferFault, PollFault, PushFault, ReloadFault,
-    StartFault,
+    AttachFault, ClockFault, LookFault, MakeFault, OfferFault, PollFault, PositionFault, PushFault,
+    ReloadFault, StartFault,
 };
-pub use media_agents::{ClientReply, Clock, DriverNaming, ElicitFault, Elicitation, Gate, Mail};
+pub use log_slots::PublicationPositions;
+pub use media_agents::{
+    ClientReply, Clock, DriverNaming, ElicitFault, Elicitation, Gate, Mail, Miss, Repairs, Tallies,
+    Tally,
+};
 pub use parts::Parts;
+pub use positions::ImagePositions;

@@ -12,17 +12,26 @@ ghost use Rattle.std.specs.Prelude.{◌≡◌, ◌+◌, ◌≤◌, ◌⊎◌, If
 
 use crate::client::Client;
 use crate::faults::OfferFault;
+use channel_uri::Media;
 use decision_cache::Cache;
 use driver_core::View;
 use driver_steps::{Answer, Offered, Told};
-use log_slots::{AtEnd, Late, OfClients, Slot, Totals};
+use log_slots::{AtEnd, Late, OfClients, Slot, Totals, lock_soon};
 use media_agents::{Clock, DriverNaming, LogAt};
 use published_registry::{Pass, caches_stay_right_of_later_looks};
 use std::sync::ledger::Share;
 use std::sync::{Mutex, Wait};
 
+/// Where a log is.
+#[derive(Clone, Copy, Debug)]
+pub(crate) struct Found {
+    at: LogAt,
+    /// Whether it is in shared memory: then no moment counts for it.
+    is_shared: bool,
+}
+
 /// Where the log of a registration of the client's own is, by a look that decides nothing. `None` where there is no look.
-fn find(pass: Pass, client: u64, registration: u64) -> (Pass, Option<Option<LogAt>>)
+fn find(pass: Pass, client: u64, registration: u64) -> (Pass, Option<Option<Found>>)
     ensures { IsContinuedBy pass result.0 }
 {
     match pass.enter() {
@@ -35,10 +44,13 @@ fn find(pass: Pass, client: u64, registration: u64) -> (Pass, Option<Option<LogA
 }
 
 /// The same, by that registry.
-fn log_at(registry: &driver_core::Registry, client: u64, registration: u64) -> Option<LogAt> {
+fn log_at(registry: &driver_core::Registry, client: u64, registration: u64) -> Option<Found> {
     let registration = registry.own_registration(client, registration)?;
     let row = registry.source(registration.source)?;
-    Some(LogAt::of(row))
+    Some(Found {
+        at: LogAt::of(row),
+        is_shared: row.channel.media() == Media::Ipc,
+    })
 }
 
 /// One hold of a log's lock, with one look within it; the lock of the totals comes last. Where they are at their greatest
@@ -66,7 +78,7 @@ fn offer_once<N: DriverNaming, R: Wait>(
     ensures step { IfSome result.1 (λ told. IsStep N.home (offer_move (registry_of result.0) now client registration message.now) (OfferedAs Closed) told.answer) }
 {
     caches_stay_right_of_later_looks();
-    let mut slot = slot.lock(rt);
+    let mut slot = lock_soon(rt, slot);
     slot.holds();
     match pass.enter() {
         Ok(look) => {
@@ -110,19 +122,19 @@ fn position_of(told: &Told) -> Result<u64, OfferFault>
 }
 
 /// The log, with whose registration it is found.
-fn remembered(registration: u64, at: Option<LogAt>) -> Option<(u64, LogAt)> {
-    Some((registration, at?))
+fn remembered(registration: u64, found: Option<Found>) -> Option<(u64, Found)> {
+    Some((registration, found?))
 }
 
 impl<N: DriverNaming, C: Clock> Client<N, C> {
     /// Where the log of a registration is: it stays there for as long as the log is open. `None` where there is no look.
-    fn log_of(&mut self, registration: u64) -> Option<Option<LogAt>>
+    fn log_of(&mut self, registration: u64) -> Option<Option<Found>>
         ensures { Looks self.old self.new }
     {
         caches_stay_right_of_later_looks();
-        if let Some((known, at)) = self.offered {
+        if let Some((known, found)) = self.offered {
             if known == registration {
-                return Some(Some(at));
+                return Some(Some(found));
             }
         }
         let Some(pass) = self.pass.take() else {
@@ -132,6 +144,17 @@ impl<N: DriverNaming, C: Clock> Client<N, C> {
         self.pass = Some(pass);
         self.offered = remembered(registration, found.flatten());
         found
+    }
+
+    /// The moment of an offer to that log: by the clock, and where no moment counts for the log the last one.
+    fn offer_moment(&self, log: Found) -> u64
+        ensures { self.now.moment ≤ result }
+    {
+        if log.is_shared {
+            self.moment
+        } else {
+            self.now()
+        }
     }
 
     /// Offers a message to the log of a publication of this client's, and gives the position after it. It is one look, if
@@ -157,11 +180,11 @@ impl<N: DriverNaming, C: Clock> Client<N, C> {
         let Some(found) = self.log_of(registration) else {
             return Err(OfferFault::NoLook);
         };
-        let Some(at) = found else {
+        let Some(log) = found else {
             return Err(OfferFault::Closed);
         };
-        let now = self.now();
-        let Some(slot) = self.slots.publications.get(at.slot as usize) else {
+        let now = self.offer_moment(log);
+        let Some(slot) = self.slots.publications.get(log.at.slot as usize) else {
             return Err(OfferFault::NoLook);
         };
         let Some(pass) = self.pass.take() else {

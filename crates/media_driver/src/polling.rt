@@ -11,10 +11,11 @@ ghost use Rattle.std.specs.Prelude.{◌≡◌, Err, None, IfErr, IfOk, IfSome, O
 
 use crate::client::Client;
 use crate::faults::PollFault;
+use crate::pacing::next_rest;
 use decision_cache::Cache;
 use driver_core::View;
 use driver_steps::{Answer, FragmentCopies, Told};
-use log_slots::{LogSlot, Slot};
+use log_slots::{LogSlot, Slot, lock_soon, rest};
 use media_agents::{Clock, DriverNaming, LogAt, Slots};
 use published_registry::{Pass, caches_stay_right_of_later_looks};
 use std::alloc::{AllocError, Global};
@@ -59,7 +60,7 @@ fn poll_publication<N: DriverNaming, R: Wait>(
     ensures memory { IfSome result.1 (λ told. OnErr told (IsGiving N.home (poll_of (registry_of result.0) client subscription source limit))) }
 {
     caches_stay_right_of_later_looks();
-    let mut slot = slot.lock(rt);
+    let mut slot = lock_soon(rt, slot);
     slot.holds();
     match pass.enter() {
         Ok(look) => {
@@ -89,7 +90,7 @@ fn poll_image<N: DriverNaming, R: Wait>(
     ensures memory { IfSome result.1 (λ told. OnErr told (IsGiving N.home (poll_of (registry_of result.0) client subscription source limit))) }
 {
     caches_stay_right_of_later_looks();
-    let mut slot = slot.lock(rt);
+    let mut slot = lock_soon(rt, slot);
     slot.holds();
     match pass.enter() {
         Ok(look) => {
@@ -187,6 +188,7 @@ impl<N: DriverNaming, C: Clock> Client<N, C> {
 
     /// Polls the log of a source by a subscription of this client's: up to `limit` fragments from where it stands. It is one
     /// look, if the client does not remember where that log is, and then one hold of the log's lock with one look within it.
+    /// Where the last polls gave few fragments each, it rests for up to two microseconds before that hold.
     ///
     /// # Errors
     /// The first that applies, by the registry of that look: `Gone`, `Denied`; `NoMemory`, only where there are fragments to
@@ -212,6 +214,7 @@ impl<N: DriverNaming, C: Clock> Client<N, C> {
         let Some(pass) = self.pass.take() else {
             unreachable!()
         };
+        rest(self.pace);
         let (pass, told) = poll_once(
             rt,
             &self.slots,
@@ -230,6 +233,7 @@ impl<N: DriverNaming, C: Clock> Client<N, C> {
         let Ok(told) = told else {
             return Err(PollFault::NoMemory);
         };
+        self.pace = next_rest(self.pace, limit, &told);
         fragments_of(told)
     }
 }

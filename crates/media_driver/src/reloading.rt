@@ -1,8 +1,5 @@
 //! Policies are put in force.
 
-ghost use Rattle.policy_query.specs.Deciding.{principals};
-ghost use Rattle.policy_text.specs.Document.{policy_of};
-ghost use Rattle.policy_text.specs.Fault.{Gives as GivesPolicy};
 ghost use Rattle.media_driver.specs.Reloading.{ReloadFails, Reloads};
 ghost use Rattle.std.specs.Prelude.{◌≡◌, IfErr, IfOk};
 
@@ -11,35 +8,23 @@ use crate::driver::Driver;
 use crate::faults::ReloadFault;
 use driver_core::{Event, Response};
 use media_agents::{Clock, DriverNaming, Question};
-use policy_core::Policy;
-use policy_text::PolicyFault;
+use policy_text::{Names, PolicyFault};
 use published_registry::Receipt;
-use std::alloc::Global;
 use std::sync::Wait;
 use std::thread::Threads;
 
-/// The policy of that text, whose principals are `nobody` and `p1` to `p63`.
-fn policy_in(alloc: Global, text: &str) -> Result<Policy, PolicyFault>
-    ensures { GivesPolicy (λ policy. policy) result (policy_of principals text.now) }
-{
-    let Ok(names) = policy_query::principals(alloc) else {
-        return Err(PolicyFault::NoMemory);
-    };
-    policy_text::read(alloc, text, &names)
-}
-
 impl<N: DriverNaming, R: Threads + Wait, C: Clock + Copy> Driver<N, R, C> {
-    /// Puts the policy of that text in force. The text may name `nobody` and `p1` to `p63`. It waits until the queue takes the
-    /// event, and the conductor answers it: whoever learns the receipt is under this policy, or a later one.
+    /// Puts the policy of that text in force, which may name these principals. It waits until the queue takes the event, and
+    /// the conductor answers it: whoever learns the receipt is under this policy, or a later one.
     ///
     /// # Errors
     /// The text's fault, and then nothing is asked; else as the conductor answers.
-    pub fn reload(&mut self, text: &str) -> Result<Receipt, ReloadFault>
+    pub fn reload(&mut self, names: &Names, text: &str) -> Result<Receipt, ReloadFault>
         ensures ours { IfOk result (λ receipt. receipt.book ≡ N.book) }
-        ensures done { IfOk result (λ receipt. Reloads text.now receipt self.old self.new) }
-        ensures err { IfErr result (λ fault. ReloadFails text.now fault self.old self.new) }
+        ensures done { IfOk result (λ receipt. Reloads names.now text.now receipt self.old self.new) }
+        ensures err { IfErr result (λ fault. ReloadFails names.now text.now fault self.old self.new) }
     {
-        let policy = match policy_in(self.alloc, text) {
+        let policy = match policy_text::read(self.alloc, text, names) {
             Ok(policy) => policy,
             Err(PolicyFault::NoMemory) => return Err(ReloadFault::NoMemory),
             Err(fault) => return Err(ReloadFault::Policy(fault)),

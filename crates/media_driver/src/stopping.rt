@@ -6,7 +6,7 @@ use crate::client::Client;
 use crate::driver::Driver;
 use crate::preparing::Kept;
 use crate::starting::Ledgers;
-use log_slots::{OfClients, settle_all};
+use log_slots::{OfClients, lock_soon, settle_all};
 use media_agents::{Clock, DriverNaming, Slots};
 use std::sync::Wait;
 use std::sync::ledger::Share;
@@ -46,7 +46,7 @@ fn total<N: DriverNaming, R: Wait>(rt: &R, slots: &Slots<N>, ledgers: Ledgers<N>
         slots: mut rest,
     } = ledgers;
     settle_all(rt, &slots.publications, &mut rest);
-    let mut totals = totals.lock(rt);
+    let mut totals = lock_soon(rt, &totals);
     totals.sum(&mut clients, &mut rest)
 }
 

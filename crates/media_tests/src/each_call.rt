@@ -2,8 +2,10 @@
 use crate::asking::{Outcome, counted, next_reply, published, source_of, subscribed};
 use crate::clients::{alone, attached};
 use crate::opening::at;
+use crate::positions::{only_of_its_own, over_memory};
 use driver_core::{Listed, Reply, Shown};
 use media_driver::{AttachFault, Client, Clock, Driver, DriverNaming, Elicitation, PushFault};
+use policy_text::Names;
 use std::alloc::Global;
 use std::sync::Wait;
 use std::thread::Threads;
@@ -44,12 +46,15 @@ fn one_message<N: DriverNaming, C: Clock, R: Wait>(rt: &R, client: &mut Client<N
     if client.offer(rt, registration, b"a") != Ok(64) {
         return Err("the offer is refused");
     }
+    over_memory(rt, client, registration, subscription, source, 0)?;
+    only_of_its_own(rt, client, registration, subscription, source)?;
     let Ok(fragments) = client.poll(rt, subscription, source, 1) else {
         return Err("the poll is refused");
     };
     if fragments.len() != 1 {
         return Err("the message did not come");
     }
+    over_memory(rt, client, registration, subscription, source, 64)?;
     let pushed = client.remove_subscription(rt, subscription);
     done(client, pushed)?;
     let pushed = client.remove_publication(rt, registration);
@@ -113,8 +118,8 @@ fn reloaded<
     N: DriverNaming + Send + Sync + 'static,
     R: Threads + Wait + Copy + Drop + Send + Sync + 'static,
     C: Clock + Copy + Drop + Send + 'static,
->(rt: R, driver: &mut Driver<N, R, C>, client: &mut Client<N, C>) -> Outcome {
-    let Ok(receipt) = driver.reload(POLICY) else {
+>(rt: R, alloc: Global, driver: &mut Driver<N, R, C>, client: &mut Client<N, C>) -> Outcome {
+    let Ok(receipt) = driver.reload(&Names::new(alloc), POLICY) else {
         return Err("the policy is not put in force");
     };
     client.learn(&receipt);
@@ -164,11 +169,11 @@ fn calls_of<
     N: DriverNaming + Send + Sync + 'static,
     R: Threads + Wait + Copy + Drop + Send + Sync + 'static,
     C: Clock + Copy + Drop + Send + 'static,
->(rt: R, driver: &mut Driver<N, R, C>, client: &mut Client<N, C>) -> Outcome {
+>(rt: R, alloc: Global, driver: &mut Driver<N, R, C>, client: &mut Client<N, C>) -> Outcome {
     one_message(&rt, client)?;
     destinations(&rt, client)?;
     counter(&rt, client)?;
-    reloaded(rt, driver, client)?;
+    reloaded(rt, alloc, driver, client)?;
     elicited(driver)?;
     at_the_end(rt, driver, client)
 }
@@ -180,6 +185,6 @@ pub(crate) fn each_call<
     C: Clock + Copy + Drop + Send + 'static,
 >(rt: R, alloc: Global, driver: &mut Driver<N, R, C>) -> Result<Vec<Client<N, C>>, &'static str> {
     let mut client = attached(driver, 1)?;
-    calls_of(rt, driver, &mut client)?;
+    calls_of(rt, alloc, driver, &mut client)?;
     alone(alloc, client)
 }

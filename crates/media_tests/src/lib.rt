@@ -26,6 +26,8 @@ mod opening;
 #[cfg(test)]
 mod order;
 #[cfg(test)]
+mod positions;
+#[cfg(test)]
 mod publishers;
 #[cfg(test)]
 mod running;

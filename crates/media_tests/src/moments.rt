@@ -3,6 +3,7 @@ use crate::asking::{Outcome, offered, published, source_of, subscribed};
 use crate::clients::{alone, attached};
 use driver_core::Reply;
 use media_driver::{Client, ClientReply, Clock, Driver, DriverNaming, PollFault};
+use policy_text::Names;
 use std::alloc::Global;
 use std::sync::Wait;
 use std::thread::{self, Threads};
@@ -50,7 +51,7 @@ fn bounded<
     let Ok(text) = text else {
         return Err("no memory");
     };
-    match driver.reload(text.as_str()) {
+    match driver.reload(&Names::new(alloc), text.as_str()) {
         Ok(_) => Ok(at),
         Err(_) => Err("the policy is not put in force"),
     }

@@ -1,6 +1,7 @@
 // A client reads over a network in memory what it publishes.
 use crate::asking::{Outcome, TRIES, published, source_of, subscribed};
 use crate::clients::{alone, attached};
+use crate::positions::over_a_wire;
 use media_driver::{Client, Clock, Driver, DriverNaming, OfferFault};
 use std::alloc::Global;
 use std::sync::Wait;
@@ -90,7 +91,8 @@ fn reads_what_it_publishes<N: DriverNaming, C: Clock, R: Wait>(
     let source = source_of(client, subscription)?;
     offers_two(rt, client, registration, turns)?;
     comes(rt, client, subscription, source, &[0x61])?;
-    comes(rt, client, subscription, source, &[0x62])
+    comes(rt, client, subscription, source, &[0x62])?;
+    over_a_wire(rt, client, registration, subscription, source)
 }
 
 /// Two messages, the second two turns of the conductor later, come from one source. The client comes back.

@@ -16,6 +16,6 @@ returns-clause-counted g c =
 pub returns-clause-step : goal.returns-clause-step
 returns-clause-step g c =
     let same : c.self.inside.number ≡ c.args.self.now.number = ap (λ (a : Attached). a.number) (c.self.view_is ∙ c.log_of.ensures.new_is) in
-    subst (λ (n : ℕ). IsOffer g.N.Naming.home (registry_of c.offer_once-pass.result.0) c.now-now.result n c.args.registration c.args.message.now c.position_of.result) same
+    subst (λ (n : ℕ). IsOffer g.N.Naming.home (registry_of c.offer_once-pass.result.0) c.offer_moment-now.result n c.args.registration c.args.message.now c.position_of.result) same
     (to_some _ (offer_answer c.position_of.result) c.in-Some-told.told.answer c.position_of.ensures.answer
     (of_some _ c.offer_once-pass.result.1 c.in-Some-told.told c.in-Some-told.is c.offer_once-pass.ensures.step))
