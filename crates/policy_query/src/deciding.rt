@@ -5,7 +5,7 @@ ghost use Rattle.std.specs.Prelude.{◌≡◌, Some, None, IfOk, option_copied, 
 ghost use Rattle.std.specs.Str.{is_utf8};
 
 use byte_strings::Text;
-use channel_uri::Channel;
+use channel_uri::{Channel, UriError};
 use policy_core::{Act, Policy, Request, Verdict};
 use policy_text::{Names, PolicyFault};
 use std::alloc::{AllocError, Global};
@@ -37,8 +37,8 @@ pub enum DecideFault {
     UnknownPrincipal,
     /// There is no act of that name.
     UnknownAct,
-    /// The text is no channel.
-    InvalidChannel,
+    /// The text is no channel, for this reason.
+    InvalidChannel(UriError),
     /// There is no memory for the policy.
     NoMemory,
 }
@@ -59,7 +59,7 @@ impl fmt::Display for DecideFault {
             DecideFault::Policy(fault) => write!(f, "{fault}"),
             DecideFault::UnknownPrincipal => f.write_str("unknown principal"),
             DecideFault::UnknownAct => f.write_str("unknown act"),
-            DecideFault::InvalidChannel => f.write_str("invalid channel"),
+            DecideFault::InvalidChannel(error) => write!(f, "invalid channel: {error}"),
             DecideFault::NoMemory => f.write_str("no memory"),
         }
     }
@@ -124,7 +124,7 @@ fn subject_of(word: &str) -> Result<Channel, DecideFault>
     }
     match Channel::parse(word) {
         Ok(channel) => Ok(channel),
-        Err(_) => Err(DecideFault::InvalidChannel),
+        Err(error) => Err(DecideFault::InvalidChannel(error)),
     }
 }
 

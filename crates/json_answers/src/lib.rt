@@ -1,0 +1,11 @@
+//! Answers to questions about policies, as JSON on one line.
+//!
+//! Each answer is an object, whose members stand in the order of their names. `docs/JSON.md` has them all.
+#![tactic(auto)]
+
+mod answers;
+mod line;
+mod rows;
+
+pub use answers::{checked, decided, differing, explained, linted, shown, tabled, tested};
+pub use rows::{Change, Failed, Finding, Grant, Miss, Rule};
