@@ -1,4 +1,9 @@
+mod AlikeLemmas
+mod CaseLemmas
 pub mod ExplainingLemmas
+pub mod KeyLemmas
+pub mod PatternLemmas
 mod SettledLemmas
+pub mod SharingLemmas
 pub mod SourceLemmas
 pub mod WiderLemmas

@@ -23,7 +23,7 @@ use Rattle.channel_uri.specs.declared.media.Media.{Media}
 use Rattle.channel_uri.specs.Media.{media_number}
 use Rattle.channel_uri.specs.Syntax.{◌>>=◌, behind_scheme, halves, cut, keys_of, pair_from, pair_of, pair_read, pairs_of}
 use Rattle.channel_uri.proofs.Sorted.{all_kept, in_order_kept, turned}
-use Rattle.policy_tools.specs.Wider.{IsWider, all_keys, front_wider, key_from, key_of, key_wider, keys_wider, pairs_from, pairs_in, value_wider, wanted_wider}
+use Rattle.policy_tools.specs.Wider.{all_keys, front_wider, key_from, key_of, pairs_from, pairs_in, value_wider}
 
 -- ---- a key's value, where keys stand in byte order
 
@@ -175,26 +175,9 @@ looked_up (e ∷ es) keys key wanted is fits =
     let both = and_parts (is_fit e.1 (value_at e.0 keys)) (all_fit es keys) fits in
     looked_up_from e es keys key wanted (bytes_eq key e.0) refl is both.0 (λ later. looked_up es keys key wanted later both.1)
 
-wanted_from : (wide value : List ℕ) (narrow : Option (List ℕ)) → wanted_wider (Some wide) narrow ≡ true → (other : List ℕ) × (narrow ≡ Some other) × (value_wider wide other ≡ true)
-wanted_from wide value None is = absurd (cc)
-wanted_from wide value (Some other) is = (other, refl, is)
-
 pub is_fit_within : (wide narrow : List ℕ) (value : Option (List ℕ)) → value_wider wide narrow ≡ true → is_fit narrow value ≡ true → is_fit wide value ≡ true
 is_fit_within wide narrow None wider fits = fits
 is_fit_within wide narrow (Some value) wider fits = value_within wide narrow value wider fits
-
-fit_each : (wide narrow keys es : List Pair) → all_fit narrow keys ≡ true → AllByRecursion (OfKey (key_wider wide narrow)) es → AllByRecursion (IsFound wide) es → all_fit es keys ≡ true
-fit_each wide narrow keys [] fits wider found = refl
-fit_each wide narrow keys (e ∷ es) fits wider found =
-    let wanted = wanted_from e.1 [] (value_at e.0 narrow) (subst (λ (o : Option (List ℕ)). wanted_wider o (value_at e.0 narrow) ≡ true) found.0 wider.0) in
-    let here : is_fit e.1 (value_at e.0 keys) ≡ true = is_fit_within e.1 wanted.0 (value_at e.0 keys) wanted.2 (looked_up narrow keys e.0 wanted.0 wanted.1 fits) in
-    rw here (fit_each wide narrow keys es fits wider.1 found.1)
-
--- ---- patterns
-
-pub any_wider : (wide narrow : Pattern) → wide ≡ Any → IsWider wide narrow
-unfolding covers
-any_wider wide narrow is = record { covered = λ channel _. rw is refl }
 
 -- ---- the text of a pattern
 
@@ -227,18 +210,3 @@ unfolding pattern_of
 keys_of_text text media keys is =
     scheme_from (behind_scheme text) media keys
     (stop_any (bytes_eq text (codes "*")) _ media keys (stop_long (nat_lt 1024 (length text)) _ (Of media keys) is))
-
-all_wider : (text : Option (List ℕ)) (wide narrow keys : List Pair) → keys_of text ≡ Ok wide → keys_wider wide narrow (pieces_in text) ≡ true →
-    all_fit narrow keys ≡ true → all_fit wide keys ≡ true
-all_wider text wide narrow keys is wider fits =
-    let known = of_text (key_wider wide narrow) text wide is wider in
-    fit_each wide narrow keys wide fits known.0 (each_found wide known.1)
-
-pub of_wider : (text : List ℕ) (media other : Media) (wide narrow : List Pair) → pattern_of text ≡ Ok (Of media wide) →
-    media_number media ≡ media_number other → keys_wider wide narrow (pieces_in (pairs_in text)) ≡ true → IsWider (Of media wide) (Of other narrow)
-unfolding covers
-of_wider text media other wide narrow is same wider = record {
-  covered = λ channel fits.
-      let both = and_parts (media_number other == media_number channel.media) (all_fit narrow channel.keys) fits in
-      rw (same, both.0) (all_wider (pairs_in text) wide narrow channel.keys (keys_of_text text media wide is) wider both.1);
-}

@@ -1,6 +1,13 @@
+pub mod Alike
+pub mod CaseLines
+pub mod CaseLists
+pub mod CaseWords
 pub mod Cases
 pub mod Directory
 pub mod Explaining
+pub mod Nearness
+pub mod Patterns
+pub mod Sharing
 pub mod Showing
 pub mod Source
 pub mod Wider

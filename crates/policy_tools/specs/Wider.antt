@@ -1,15 +1,11 @@
 -- When one pattern covers all that another one does.
-use Rattle.std.specs.Prelude.{◌≡◌, ◌&&◌, ◌||◌, ◌==◌, ℕ, Bool, true, false, List, Option, Some, None, Result, Ok, Err, nat_eq, unwrap_or}
+use Rattle.std.specs.Prelude.{◌≡◌, ◌||◌, ℕ, Bool, true, false, List, Option, Some, None, Result, Ok, Err, nat_eq, unwrap_or}
 use Rattle.std.specs.List.{list_all, starts_with}
 use Rattle.std.specs.Str.{bytes_eq}
 use Rattle.channel_uri.specs.declared.error.UriError.{UriError}
 use Rattle.channel_uri.specs.declared.pattern.Pattern.{Pattern}
-use Rattle.channel_uri.specs.declared.pattern.Pattern.TheVariants.{Any, Of}
 use Rattle.channel_uri.specs.Channel.{Shape}
-use Rattle.channel_uri.specs.Keys.{Pair, value_at}
-use Rattle.channel_uri.specs.Media.{media_number}
 use Rattle.channel_uri.specs.Pattern.{covers, front_of}
-use Rattle.channel_uri.specs.Pieces.{pieces_in}
 use Rattle.channel_uri.specs.Syntax.{behind_scheme, cut, halves}
 
 -- each channel that the narrow pattern covers is covered by the wide one
@@ -48,22 +44,3 @@ front_wider (Some front) narrow = starts_with nat_eq (unwrap_or (front_of narrow
 -- the values are equal, or the wide one is a prefix of the narrow one
 abbrev pub value_wider : List ℕ → List ℕ → Bool
 value_wider wide narrow = bytes_eq wide narrow || front_wider (front_of wide) narrow
-
-abbrev pub wanted_wider : Option (List ℕ) → Option (List ℕ) → Bool
-wanted_wider (Some wide) (Some narrow) = value_wider wide narrow
-wanted_wider _ _ = false
-
--- both patterns have the key, the narrow one with a value that is within the wide one's
-abbrev pub key_wider : List Pair → List Pair → List ℕ → Bool
-key_wider wide narrow key = wanted_wider (value_at key wide) (value_at key narrow)
-
--- so it is for the key of each piece
-abbrev pub keys_wider : List Pair → List Pair → List (List ℕ) → Bool
-keys_wider wide narrow pieces = all_keys (key_wider wide narrow) pieces
-
--- the wide pattern, of this text, is `*`, or both are of one medium and so it is for each of its keys
-abbrev pub found_wider : List ℕ → Pattern → Pattern → Bool
-found_wider text Any narrow = true
-found_wider text (Of media keys) Any = false
-found_wider text (Of media keys) (Of other others) =
-    (media_number media == media_number other) && keys_wider keys others (pieces_in (pairs_in text))

@@ -1,14 +1,15 @@
 ghost use Rattle.policy_query.specs.Deciding.{principals, principals_to};
 ghost use Rattle.policy_text.specs.Names.{number_of};
+ghost use Rattle.policy_tools.specs.CaseLines.{is_blank};
 ghost use Rattle.policy_tools.specs.Directory.{first_of, name_of};
 ghost use Rattle.std.specs.Prelude.{◌≡◌, ◌++◌, ◌∷◌, [], IfOk, option_copied};
 
+use crate::wider::begins_with;
 use byte_strings::Text;
 use policy_text::Names;
 use std::alloc::{AllocError, Global};
-use std::error::Error;
 use std::marker::Model;
-use std::{fmt, str};
+use std::str;
 
 /// The names of principals, by which policies and questions speak of them, and by which answers do.
 #[derive(Debug, Drop)]
@@ -46,18 +47,6 @@ impl From<AllocError> for NamesFault {
     }
 }
 
-impl fmt::Display for NamesFault {
-    fn fmt<W: fmt::Write>(&self, f: &mut fmt::Formatter<W>) -> fmt::Result {
-        match self {
-            NamesFault::BadLine(line) => write!(f, "names: line {line}: bad line"),
-            NamesFault::NotText => f.write_str("names: not text"),
-            NamesFault::NoMemory => f.write_str("no memory"),
-        }
-    }
-}
-
-impl Error for NamesFault {}
-
 /// The name and the number of a line `principal NAME NUMBER`.
 fn named(line: &str) -> Option<(&str, u32)> {
     let rest = line.strip_prefix("principal ")?;
@@ -72,13 +61,15 @@ fn named(line: &str) -> Option<(&str, u32)> {
 }
 
 /// Whether the text is one or more digits.
-pub(crate) fn is_decimal(text: &str) -> bool {
+fn is_decimal(text: &str) -> bool {
     !text.is_empty() && text.bytes().all(|byte| byte >= b'0' && byte <= b'9')
 }
 
 /// Whether the line says nothing: it is empty, or a comment.
-pub(crate) fn is_blank(line: &str) -> bool {
-    line.is_empty() || line.starts_with("#")
+pub(crate) fn is_blank(line: &str) -> bool
+    ensures { result ≡ is_blank line.now }
+{
+    line.is_empty() || begins_with(line, "#")
 }
 
 impl Directory {
@@ -97,8 +88,8 @@ impl Directory {
         Ok(directory)
     }
 
-    /// `nobody` alone.
-    fn new(alloc: Global) -> Directory
+    /// `nobody` alone. It takes no memory.
+    pub fn new(alloc: Global) -> Directory
         ensures { result ≡ [] }
     {
         Directory {
@@ -108,7 +99,7 @@ impl Directory {
     }
 
     /// These names, and one more.
-    fn with(self, alloc: Global, name: Text, number: u32) -> Result<Directory, AllocError>
+    pub fn with(self, alloc: Global, name: Text, number: u32) -> Result<Directory, AllocError>
         ensures { IfOk result (λ directory. directory ≡ self ++ (name, number) ∷ []) }
     {
         let Directory {
@@ -158,6 +149,13 @@ impl Directory {
         ensures { result.now ≡ self.now }
     {
         &self.names
+    }
+
+    /// The names that were given, with their numbers and in their order.
+    pub fn given(&self) -> &[(Text, u32)]
+        ensures { result.now ≡ self.now }
+    {
+        self.given.as_slice()
     }
 
     /// The number of a name.

@@ -3,24 +3,36 @@
 //! is found by the pieces of their texts.
 #![tactic(auto)]
 
+mod alike;
+mod case_faults;
 mod case_lines;
+mod case_lists;
+mod case_words;
 mod cases;
 mod columns;
 mod directory;
 mod explaining;
+mod nearness;
+mod numbers;
+mod patterns;
 mod reasons;
+mod sharing;
 mod showing;
 mod source;
 mod wider;
 mod words;
 
+pub use case_faults::{CaseCause, CasePlace};
 pub use case_lines::{CasesFault, cases_in};
 pub use cases::{By, Case, Failure, Report};
 pub use columns::{Line, in_columns};
 pub use directory::{Directory, NamesFault};
 pub use explaining::{ChannelMiss, Explanation, Miss, channel_miss, explain, miss_of};
-pub use reasons::explained;
+pub use nearness::nearest;
+pub use patterns::{Relation, is_wider, patterns_pass};
+pub use reasons::{Reason, explained, name_at, reasons_of};
+pub use sharing::{is_over, may_meet};
 pub use showing::show;
 pub use source::Source;
-pub use wider::{first_piece, is_wider, key_of, pairs_in, value_wider};
+pub use wider::{first_piece, key_of, pairs_in, value_wider};
 pub use words::{acts_text, moments_text, plain, principals_text, streams_text, word_of};

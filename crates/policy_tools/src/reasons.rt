@@ -5,23 +5,29 @@ ghost use Rattle.std.specs.Prelude.{◌<◌, length};
 use crate::explaining::{ChannelMiss, Explanation, Miss, channel_miss};
 use crate::source::Source;
 use crate::words::plain;
+use byte_strings::Text;
 use channel_uri::Channel;
 use policy_core::{Act, Rule};
 use std::alloc::{AllocError, Global};
 
+/// Why a rule does not match.
+#[derive(Debug, Drop)]
+pub struct Reason {
+    /// The place of the rule, counted from 0.
+    pub at: usize,
+    /// The part of it that does not match, in words.
+    pub part: Text,
+}
+
 /// What of a channel the pattern of a rule doesn't cover.
-fn push_channel(
-    alloc: Global,
-    text: &mut String,
-    miss: Option<ChannelMiss<'_>>,
-) -> Result<(), AllocError> {
+fn channel_part(alloc: Global, miss: Option<ChannelMiss<'_>>) -> Result<Text, AllocError> {
     match miss {
-        Some(ChannelMiss::Medium) => text.push_str("medium"),
+        Some(ChannelMiss::Medium) => Text::new(alloc, "medium"),
         Some(ChannelMiss::Key(key)) => {
             let key = plain(alloc, key)?;
-            write!(text, "key {key}")
+            Ok(Text::from(format!(in alloc; "key {key}")?))
         }
-        None => text.push_str("channel"),
+        None => Text::new(alloc, "channel"),
     }
 }
 
@@ -35,32 +41,52 @@ fn stands(rule: &Rule) -> bool {
     false
 }
 
-/// A line for a rule that doesn't match.
-fn push_miss(
+/// The part of a rule that does not match.
+fn part_of(
     alloc: Global,
-    text: &mut String,
     at: usize,
     source: &Source,
     miss: Miss,
     channel: &Channel,
-) -> Result<(), AllocError>
+) -> Result<Text, AllocError>
     requires { at < length source.now.policy.rules }
 {
     let rule = &source.rules()[at];
-    let number = at + 1;
-    let name = rule.name.as_str();
-    write!(text, "rule {number}, {name}: the ")?;
     match miss {
-        Miss::Principal => text.push_str("principal")?,
-        Miss::Act => text.push_str(if stands(rule) { "act" } else { "moment" })?,
-        Miss::Channel => push_channel(
-            alloc,
-            text,
-            channel_miss(source.text(at), &rule.channel, channel),
-        )?,
-        Miss::Stream => text.push_str("stream")?,
+        Miss::Principal => Text::new(alloc, "principal"),
+        Miss::Act => Text::new(alloc, if stands(rule) { "act" } else { "moment" }),
+        Miss::Channel => channel_part(alloc, channel_miss(source.text(at), &rule.channel, channel)),
+        Miss::Stream => Text::new(alloc, "stream"),
     }
-    text.push_str(" does not match\n")
+}
+
+/// Why the rules at these places do not match, of those before the one that decides; why all of these do not, where no places are
+/// given.
+pub fn reasons_of(
+    alloc: Global,
+    source: &Source,
+    channel: &Channel,
+    found: &Explanation,
+    places: Option<&[usize]>,
+) -> Result<Vec<Reason>, AllocError> {
+    let mut reasons = Vec::new(alloc);
+    let count = match places {
+        Some(places) => places.len(),
+        None => found.misses.len(),
+    };
+    for index in 0..count {
+        let at = match places {
+            Some(places) => places.get(index).copied().unwrap_or(0),
+            None => index,
+        };
+        if at < source.rules().len()
+            && let Some(miss) = found.misses.get(at)
+        {
+            let part = part_of(alloc, at, source, *miss, channel)?;
+            reasons.push(Reason { at, part })?;
+        }
+    }
+    Ok(reasons)
 }
 
 /// The line that names the rule that decides.
@@ -76,21 +102,30 @@ fn push_decider(text: &mut String, rules: &[Rule], rule: Option<u32>) -> Result<
     writeln!(text, "rule {number}, {name}: decides")
 }
 
-/// An explanation as a text: the verdict, the rule that decides, and for each rule before it what doesn't match.
+/// The name of the rule at a place.
+pub fn name_at(rules: &[Rule], at: usize) -> &str {
+    match rules.get(at) {
+        Some(rule) => rule.name.as_str(),
+        None => "",
+    }
+}
+
+/// An explanation as a text: the verdict, the rule that decides, and why others do not match.
 pub fn explained(
     alloc: Global,
     source: &Source,
-    channel: &Channel,
     found: &Explanation,
+    reasons: &[Reason],
 ) -> Result<String, AllocError> {
     let rules = source.rules();
     let verdict = found.verdict;
     let mut text = format!(in alloc; "{verdict}\n")?;
     push_decider(&mut text, rules, verdict.rule)?;
-    for at in 0..found.misses.len() {
-        if at < rules.len() {
-            push_miss(alloc, &mut text, at, source, found.misses[at], channel)?;
-        }
+    for reason in reasons {
+        let number = reason.at.saturating_add(1);
+        let name = name_at(rules, reason.at);
+        let part = &reason.part;
+        writeln!(text, "rule {number}, {name}: the {part} does not match")?;
     }
     Ok(text)
 }
