@@ -16,12 +16,13 @@ use Rattle.policy_core.specs.Rule.{matches}
 use Rattle.policy_core.specs.RuleList.{Rules}
 use Rattle.policy_core.specs.Rules.{verdict_at, verdict_of}
 use Rattle.policy_core.specs.declared.rule.Rule.{Rule}
-use Rattle.policy_diff.specs.Diff.{AreApart, IsDecider, IsDiff, IsOf, all_rows, deciders, is_row, is_within, meet_from, reach_from, rows_from, rule_of, word_of}
+use Rattle.policy_diff.specs.Deciding.{IsDecidedBy}
+use Rattle.policy_diff.specs.Diff.{AreApart, IsDecider, IsOf, all_pairs, deciders, is_pair, is_within, meet_from, reach_from, pairs_from, rule_of, word_of}
 use Rattle.policy_diff.specs.Reach.{reach_of}
 use Rattle.policy_diff.specs.declared.reach.Reach.{Reach}
-use Rattle.policy_diff.specs.declared.pairs.Row.{Row}
+use Rattle.policy_diff.specs.declared.pairs.Deciders.{Deciders}
 use Rattle.policy_diff.proofs.ReachLemmas.{upto}
-use Rattle.policy_diff.proofs.SharingLemmas.{met}
+use Rattle.policy_tools.proofs.SharingLemmas.{met}
 
 -- ---- one after the other
 
@@ -29,64 +30,64 @@ use Rattle.policy_diff.proofs.SharingLemmas.{met}
 abbrev pub places : ℕ → List (Option ℕ)
 places count = map (λ at. Some at) (range_with_len 0 count)
 
-abbrev pub row_with : Option ℕ → Option ℕ → Row
+abbrev pub row_with : Option ℕ → Option ℕ → Deciders
 row_with decider other = record { old = decider; new = other }
 
 -- the rows of what decides in the old policy with the first rules of the new one
-abbrev pub rows_to : Rules → Rules → Option ℕ → ℕ → List Row
-rows_to old new decider count = filter (is_row old new) (map (row_with decider) (places count))
+abbrev pub rows_to : Rules → Rules → Option ℕ → ℕ → List Deciders
+rows_to old new decider count = filter (is_pair old new) (map (row_with decider) (places count))
 
 places_more : (count : ℕ) → places (count + 1) ≡ places count ++ Some count ∷ []
 places_more count = map-range_with_len_more (λ at. Some at) 0 count count (zero-add count)
 
 rows_append : (old new : Rules) (decider : Option ℕ) (some : List (Option ℕ)) (one : Option ℕ) →
-    filter (is_row old new) (map (row_with decider) (some ++ one ∷ [])) ≡ filter (is_row old new) (map (row_with decider) some) ++ filter (is_row old new) (row_with decider one ∷ [])
+    filter (is_pair old new) (map (row_with decider) (some ++ one ∷ [])) ≡ filter (is_pair old new) (map (row_with decider) some) ++ filter (is_pair old new) (row_with decider one ∷ [])
 rows_append old new decider some one =
-    ap (filter (is_row old new)) (map-append (row_with decider) some (one ∷ []))
-    ∙ filter-append (is_row old new) (map (row_with decider) some) (row_with decider one ∷ [])
+    ap (filter (is_pair old new)) (map-append (row_with decider) some (one ∷ []))
+    ∙ filter-append (is_pair old new) (map (row_with decider) some) (row_with decider one ∷ [])
 
-pub rows_more : (old new : Rules) (decider : Option ℕ) (count : ℕ) (first now next : List Row) → now ≡ first ++ rows_to old new decider count →
-    next ≡ now ++ filter (is_row old new) (row_with decider (Some count) ∷ []) → next ≡ first ++ rows_to old new decider (count + 1)
+pub rows_more : (old new : Rules) (decider : Option ℕ) (count : ℕ) (first now next : List Deciders) → now ≡ first ++ rows_to old new decider count →
+    next ≡ now ++ filter (is_pair old new) (row_with decider (Some count) ∷ []) → next ≡ first ++ rows_to old new decider (count + 1)
 rows_more old new decider count first now next so_far more =
-    more ∙ ap (λ rows. rows ++ filter (is_row old new) (row_with decider (Some count) ∷ [])) so_far
+    more ∙ ap (λ rows. rows ++ filter (is_pair old new) (row_with decider (Some count) ∷ [])) so_far
     ∙ append_assoc first _ _
     ∙ ap (λ rows. first ++ rows) (sym (
-    ap (λ some. filter (is_row old new) (map (row_with decider) some)) (places_more count)
+    ap (λ some. filter (is_pair old new) (map (row_with decider) some)) (places_more count)
     ∙ rows_append old new decider (places count) (Some count)))
 
-pub rows_whole : (old new : Rules) (decider : Option ℕ) (count : ℕ) (first now next : List Row) → now ≡ first ++ rows_to old new decider count → count ≡ length new.rules →
-    next ≡ now ++ filter (is_row old new) (row_with decider None ∷ []) → next ≡ first ++ rows_from old new decider
+pub rows_whole : (old new : Rules) (decider : Option ℕ) (count : ℕ) (first now next : List Deciders) → now ≡ first ++ rows_to old new decider count → count ≡ length new.rules →
+    next ≡ now ++ filter (is_pair old new) (row_with decider None ∷ []) → next ≡ first ++ pairs_from old new decider
 rows_whole old new decider count first now next so_far is more =
-    more ∙ ap (λ rows. rows ++ filter (is_row old new) (row_with decider None ∷ [])) so_far
+    more ∙ ap (λ rows. rows ++ filter (is_pair old new) (row_with decider None ∷ [])) so_far
     ∙ append_assoc first _ _
     ∙ ap (λ rows. first ++ rows) (sym (rows_append old new decider (places count) None))
-    ∙ ap (λ n. first ++ filter (is_row old new) (map (row_with decider) (deciders n))) is
+    ∙ ap (λ n. first ++ filter (is_pair old new) (map (row_with decider) (deciders n))) is
 
 -- the rows of the first rules of the old policy
-abbrev pub all_to : Rules → Rules → ℕ → List Row
-all_to old new count = flat_map (rows_from old new) (places count)
+abbrev pub all_to : Rules → Rules → ℕ → List Deciders
+all_to old new count = flat_map (pairs_from old new) (places count)
 
 all_append : (old new : Rules) (some : List (Option ℕ)) (one : Option ℕ) →
-    flat_map (rows_from old new) (some ++ one ∷ []) ≡ flat_map (rows_from old new) some ++ rows_from old new one
+    flat_map (pairs_from old new) (some ++ one ∷ []) ≡ flat_map (pairs_from old new) some ++ pairs_from old new one
 all_append old new some one =
-    flat_map-append (rows_from old new) some (one ∷ [])
-    ∙ ap (λ rows. flat_map (rows_from old new) some ++ rows) (append-nil (rows_from old new one))
+    flat_map-append (pairs_from old new) some (one ∷ [])
+    ∙ ap (λ rows. flat_map (pairs_from old new) some ++ rows) (append-nil (pairs_from old new one))
 
-pub all_more : (old new : Rules) (count : ℕ) (first now next : List Row) → now ≡ first ++ all_to old new count →
-    next ≡ now ++ rows_from old new (Some count) → next ≡ first ++ all_to old new (count + 1)
+pub all_more : (old new : Rules) (count : ℕ) (first now next : List Deciders) → now ≡ first ++ all_to old new count →
+    next ≡ now ++ pairs_from old new (Some count) → next ≡ first ++ all_to old new (count + 1)
 all_more old new count first now next so_far more =
-    more ∙ ap (λ rows. rows ++ rows_from old new (Some count)) so_far
+    more ∙ ap (λ rows. rows ++ pairs_from old new (Some count)) so_far
     ∙ append_assoc first _ _
     ∙ ap (λ rows. first ++ rows) (sym (
-    ap (flat_map (rows_from old new)) (places_more count) ∙ all_append old new (places count) (Some count)))
+    ap (flat_map (pairs_from old new)) (places_more count) ∙ all_append old new (places count) (Some count)))
 
-pub all_whole : (old new : Rules) (count : ℕ) (first now next : List Row) → now ≡ first ++ all_to old new count → count ≡ length old.rules →
-    next ≡ now ++ rows_from old new None → next ≡ first ++ all_rows old new
+pub all_whole : (old new : Rules) (count : ℕ) (first now next : List Deciders) → now ≡ first ++ all_to old new count → count ≡ length old.rules →
+    next ≡ now ++ pairs_from old new None → next ≡ first ++ all_pairs old new
 all_whole old new count first now next so_far is more =
-    more ∙ ap (λ rows. rows ++ rows_from old new None) so_far
+    more ∙ ap (λ rows. rows ++ pairs_from old new None) so_far
     ∙ append_assoc first _ _
     ∙ ap (λ rows. first ++ rows) (sym (all_append old new (places count) None))
-    ∙ ap (λ n. first ++ flat_map (rows_from old new) (deciders n)) is
+    ∙ ap (λ n. first ++ flat_map (pairs_from old new) (deciders n)) is
 
 -- what follows of a call that may be refused memory
 pub ok_then : {T E : Type 0} (result : Result T E) (P Q : Type 0) → (P → Q) → OnOk result P → OnOk result Q
@@ -218,8 +219,8 @@ meet_matched question None other first second = refl
 meet_matched question (Some one) None first second = refl
 meet_matched question (Some one) (Some other) first second = met one other question (first one refl) (second other refl)
 
--- a request with different words is of the row of what decides it
-pub missed_by_none : (old new : Rules) (question : Question) → AreApart old new question → (row : Row) × Contains (all_rows old new) row × IsOf old new question row
+-- a request with different words is of the pair that decides it
+pub missed_by_none : (old new : Rules) (question : Question) → AreApart old new question → (deciders : Deciders) × Contains (all_pairs old new) deciders × IsDecidedBy old new question deciders
 unfolding verdict_of
 missed_by_none old new question apart =
     let one = position (λ r. matches r question) old.rules in
@@ -229,32 +230,43 @@ missed_by_none old new question apart =
     let b : Decides new question other = decides_from new question other refl in
     let words : not (beq (word_of old one) (word_of new other)) ≡ true =
     differ (word_of old one) (word_of new other) (λ same. apart (word_is old 1 one ∙ same ∙ sym (word_is new 1 other))) in
-    let is : is_row old new row ≡ true =
+    let is : is_pair old new row ≡ true =
     and_from _ _
     (and_from _ _ (and_from _ _ words (within_from old new question (rule_of old one) a.is_match)) (within_from old new question (rule_of new other) b.is_match))
     (meet_matched question (rule_of old one) (rule_of new other) a.is_match b.is_match) in (
       row,
-      contained (all_rows old new) row
-          (among_flat_map (rows_from old new) (deciders (length old.rules)) one row
+      contained (all_pairs old new) row
+          (among_flat_map (pairs_from old new) (deciders (length old.rules)) one row
           (among_deciders old one a.of_policy)
-          (among_filter (is_row old new) (map (row_with one) (deciders (length new.rules))) row is
+          (among_filter (is_pair old new) (map (row_with one) (deciders (length new.rules))) row is
           (among_map (row_with one) (deciders (length new.rules)) other (among_deciders new other b.of_policy)))),
-      record { by_old = λ epoch. refl; by_new = λ epoch. refl },
+      record { by_old = refl; by_new = refl },
     )
 
--- a request that is decided by the two of a row is of it
-pub is_of_deciders : (old new : Rules) (question : Question) (row : Row) → position (λ rule. matches rule question) old.rules ≡ row.old →
-    position (λ rule. matches rule question) new.rules ≡ row.new → IsOf old new question row
+-- a request that is decided by two places is of the two
+pub is_of_deciders : (old new : Rules) (question : Question) (deciders : Deciders) → IsDecidedBy old new question deciders → IsOf old new question deciders
 unfolding verdict_of
-is_of_deciders old new question row first second = record {
-  by_old = λ epoch. ap (verdict_at old epoch) first;
-  by_new = λ epoch. ap (verdict_at new epoch) second;
+is_of_deciders old new question deciders is = record {
+  by_old = λ epoch. ap (verdict_at old epoch) is.by_old;
+  by_new = λ epoch. ap (verdict_at new epoch) is.by_new;
 }
 
-pub is_diff : (old new : Rules) (rows : List Row) → rows ≡ all_rows old new → IsDiff old new rows
-is_diff old new rows is = record {
-  exact = is;
-  complete = λ question apart.
-      let found = missed_by_none old new question apart in
-      (found.0, subst (λ (all : List Row). Contains all found.0) (sym is) found.1, found.2);
-}
+-- with different words, where those of the two differ
+pub apart_of_words : (old new : Rules) (question : Question) (deciders : Deciders) → IsDecidedBy old new question deciders → (word_of old deciders.old ≡ word_of new deciders.new → ⊥) →
+    AreApart old new question
+unfolding verdict_of
+apart_of_words old new question two is words = λ same.
+    words (
+    sym (ap (λ verdict. verdict.allow) (ap (verdict_at old 1) is.by_old) ∙ word_is old 1 two.old)
+    ∙ same
+    ∙ (ap (λ verdict. verdict.allow) (ap (verdict_at new 1) is.by_new) ∙ word_is new 1 two.new))
+
+-- and the other way round
+pub words_of_apart : (old new : Rules) (question : Question) (deciders : Deciders) → IsDecidedBy old new question deciders → AreApart old new question →
+    word_of old deciders.old ≡ word_of new deciders.new → ⊥
+unfolding verdict_of
+words_of_apart old new question two is apart same =
+    apart (
+    ap (λ verdict. verdict.allow) (ap (verdict_at old 1) is.by_old) ∙ word_is old 1 two.old
+    ∙ same
+    ∙ sym (ap (λ verdict. verdict.allow) (ap (verdict_at new 1) is.by_new) ∙ word_is new 1 two.new))

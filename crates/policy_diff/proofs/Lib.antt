@@ -1,5 +1,8 @@
+pub mod ActLemmas
+pub mod AddingLemmas
 pub mod DiffLemmas
-pub mod KeyLemmas
-pub mod PatternLemmas
+pub mod NamedLemmas
+pub mod PlaceLemmas
 pub mod ReachLemmas
-pub mod SharingLemmas
+pub mod ScopeLemmas
+pub mod StreamLemmas

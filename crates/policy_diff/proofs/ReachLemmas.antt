@@ -8,8 +8,8 @@ use Rattle.policy_core.specs.Question.{Question}
 use Rattle.policy_core.specs.Rule.{matches}
 use Rattle.policy_core.specs.declared.rule.Rule.{Rule}
 use Rattle.policy_diff.specs.Reach.{first_over, is_upto}
-use Rattle.policy_diff.specs.Sharing.{is_over}
-use Rattle.policy_diff.proofs.SharingLemmas.{taken}
+use Rattle.policy_tools.specs.Sharing.{is_over}
+use Rattle.policy_tools.proofs.SharingLemmas.{taken}
 
 -- the first place that passes
 pub position_is : {X : Type 0} (p : X → Bool) (xs : List X) (at : ℕ) (d : X) → at < length xs → ((k : ℕ) → k < at → p (get_or xs k d) ≡ false) → p (get_or xs at d) ≡ true →

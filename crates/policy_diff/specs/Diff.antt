@@ -1,15 +1,21 @@
--- The difference of two policies: what may decide a request in the one and in the other, with different words.
-use Rattle.std.specs.Prelude.{◌≡◌, ◌≢◌, ◌&&◌, ◌<◌, ◌++◌, ◌∷◌, [], not, ℕ, Bool, true, List, Option, Some, None, length, map, filter, flat_map, slice_get}
+-- The difference of two policies: the requests that they decide with different words.
+use Rattle.std.specs.Prelude.{◌≡◌, ◌≢◌, IfSome, position, ◌&&◌, ◌<◌, ◌++◌, ◌∷◌, [], not, ℕ, Bool, true, List, Option, Some, None, length, map, filter, flat_map, slice_get}
 use Rattle.std.specs.Bool.{beq}
-use Rattle.std.specs.List.{Contains, range_with_len}
+use Rattle.std.specs.List.{All, Contains, range_with_len}
 use Rattle.policy_core.specs.Question.{Question}
+use Rattle.policy_core.specs.Rule.{matches}
 use Rattle.policy_core.specs.RuleList.{Rules}
 use Rattle.policy_core.specs.Rules.{verdict_at, verdict_of, word_at}
 use Rattle.policy_core.specs.declared.rule.Rule.{Rule}
 use Rattle.policy_diff.specs.Reach.{is_upto, reach_of}
-use Rattle.policy_diff.specs.Sharing.{may_meet}
+use Rattle.policy_tools.specs.Sharing.{may_meet}
 use Rattle.policy_diff.specs.declared.reach.Reach.{Reach}
-use Rattle.policy_diff.specs.declared.pairs.Row.{Row}
+use Rattle.policy_diff.specs.Examples.{asked_by}
+use Rattle.policy_diff.specs.Scope.{IsIn, IsStream}
+use Rattle.policy_diff.specs.declared.examples.Example.{Example}
+use Rattle.policy_diff.specs.declared.pairs.Deciders.{Deciders}
+use Rattle.policy_diff.specs.declared.diff_rows.Row.{Row}
+use Rattle.policy_diff.specs.declared.scope.Scope.{Scope}
 
 -- all that may decide: the rules of a policy with so many, by their places, and the default
 abbrev pub deciders : ℕ → List (Option ℕ)
@@ -36,7 +42,7 @@ reach_from old new None = record { old = None; new = None }
 reach_from old new (Some rule) = reach_of old new rule
 
 -- both stand where those requests are decided
-abbrev pub is_within : Row → Reach → Bool
+abbrev pub is_within : Deciders → Reach → Bool
 is_within row reach = is_upto row.old reach.old && is_upto row.new reach.new
 
 -- some request may match both; the default may meet each
@@ -45,36 +51,55 @@ meet_from None other = true
 meet_from (Some one) None = true
 meet_from (Some one) (Some other) = may_meet one other
 
-abbrev pub meet : Rules → Rules → Row → Bool
+abbrev pub meet : Rules → Rules → Deciders → Bool
 meet old new row = meet_from (rule_of old row.old) (rule_of new row.new)
 
 -- the words differ, no rule before either takes all requests of one of the two, and these may meet
-abbrev pub is_row : Rules → Rules → Row → Bool
-is_row old new row =
+abbrev pub is_pair : Rules → Rules → Deciders → Bool
+is_pair old new row =
     not (beq (word_of old row.old) (word_of new row.new))
     && is_within row (reach_from old new (rule_of old row.old))
     && is_within row (reach_from old new (rule_of new row.new))
     && meet old new row
 
--- the rows of what decides in the old policy, in the order of what decides in the new one
-abbrev pub rows_from : Rules → Rules → Option ℕ → List Row
-rows_from old new decider =
-    filter (is_row old new) (map (λ other. record { old = decider; new = other }) (deciders (length new.rules)))
+-- the pairs with what decides in the old policy, in the order of what decides in the new one
+abbrev pub pairs_from : Rules → Rules → Option ℕ → List Deciders
+pairs_from old new decider =
+    filter (is_pair old new) (map (λ other. record { old = decider; new = other }) (deciders (length new.rules)))
 
--- all rows, in the order of what decides in the old policy
-abbrev pub all_rows : Rules → Rules → List Row
-all_rows old new = flat_map (rows_from old new) (deciders (length old.rules))
+-- all pairs, in the order of what decides in the old policy
+abbrev pub all_pairs : Rules → Rules → List Deciders
+all_pairs old new = flat_map (pairs_from old new) (deciders (length old.rules))
 
--- the request is decided by the two of a row
-pub record IsOf (old new : Rules) (question : Question) (row : Row) : Type 0 where
-  pub by_old : (epoch : ℕ) → verdict_of old epoch question ≡ verdict_at old epoch row.old
-  pub by_new : (epoch : ℕ) → verdict_of new epoch question ≡ verdict_at new epoch row.new
+-- ---- what a row says
+
+-- the request is decided by these two, the one in the old policy and the other in the new one
+pub record IsOf (old new : Rules) (question : Question) (deciders : Deciders) : Type 0 where
+  pub by_old : (epoch : ℕ) → verdict_of old epoch question ≡ verdict_at old epoch deciders.old
+  pub by_new : (epoch : ℕ) → verdict_of new epoch question ≡ verdict_at new epoch deciders.new
 
 -- the policies give the request different words
 abbrev pub AreApart : Rules → Rules → Question → Type 0
 AreApart old new question = (verdict_of old 1 question).allow ≢ (verdict_of new 1 question).allow
 
--- exactly those rows are listed, and each request with different words is of one of them
+-- the example is a request of the row; and each request of the row on the example's channel, whoever of the row's principals asks,
+-- whichever of its acts, and on whichever of its streams, is decided by the row's two, with different words
+pub record IsShown (old new : Rules) (row : Row) (example : Example) : Type 0 where
+  pub within : IsIn old new row.scope (asked_by example)
+  pub decided : (question : Question) → IsIn old new row.scope question → question.channel ≡ example.channel → IsOf old new question row.deciders
+  pub apart : (question : Question) → IsIn old new row.scope question → question.channel ≡ example.channel → AreApart old new question
+
+-- a row that has an example is shown by it
+abbrev pub IsSound : Rules → Rules → Row → Type 0
+IsSound old new row = IfSome row.example (IsShown old new row)
+
+-- the row speaks of the request, and of what decides it
+pub record SpeaksOf (old new : Rules) (row : Row) (question : Question) : Type 0 where
+  pub within : IsIn old new row.scope question
+  pub decided : IsOf old new question row.deciders
+
+-- each row with an example is shown by it, and of each request with different words a row speaks
 pub record IsDiff (old new : Rules) (rows : List Row) : Type 0 where
-  pub exact : rows ≡ all_rows old new
-  pub complete : (question : Question) → AreApart old new question → (row : Row) × Contains rows row × IsOf old new question row
+  pub sound : All (IsSound old new) rows
+  pub complete : (question : Question) → IsStream question.stream → AreApart old new question
+      → (row : Row) × Contains rows row × SpeaksOf old new row question

@@ -1,5 +1,7 @@
+pub mod Adding
+pub mod Askers
+pub mod Deciding
 pub mod Diff
 pub mod Examples
-pub mod Patterns
 pub mod Reach
-pub mod Sharing
+pub mod Scope

@@ -2,7 +2,7 @@
 use Rattle.std.specs.Prelude.{ℕ, Bool, true, false, List, Option, Some, None, nat_le, position}
 use Rattle.policy_core.specs.RuleList.{Rules}
 use Rattle.policy_core.specs.declared.rule.Rule.{Rule}
-use Rattle.policy_diff.specs.Sharing.{is_over}
+use Rattle.policy_tools.specs.Sharing.{is_over}
 use Rattle.policy_diff.specs.declared.reach.Reach.{Reach}
 
 -- the place of the first rule that is over this one

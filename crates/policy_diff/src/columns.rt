@@ -1,13 +1,13 @@
 //! Cells of rows.
 
 use crate::examples::{Example, rule_at, written_at};
-use crate::pairs::Row;
-use crate::patterns::{Relation, patterns_pass};
+use crate::pairs::Deciders;
 use crate::requests::Written;
+use crate::scope::Asker;
 use byte_strings::Text;
 use channel_uri::Media;
 use policy_core::Principals;
-use policy_tools::{Directory, Source, plain, principals_text, word_of};
+use policy_tools::{Directory, Relation, Source, patterns_pass, plain, principals_text, word_of};
 use std::alloc::{AllocError, Global};
 
 /// The channels that both patterns may cover: the text of the one that the other covers, or both texts.
@@ -31,9 +31,9 @@ pub(crate) fn channel_cell(
     alloc: Global,
     old: &Source,
     new: &Source,
-    row: Row,
+    deciders: Deciders,
 ) -> Result<Text, AllocError> {
-    match (written_at(old, row.old), written_at(new, row.new)) {
+    match (written_at(old, deciders.old), written_at(new, deciders.new)) {
         (Some(one), Some(other)) => common_channels(alloc, one, other),
         (Some(one), None) => plain(alloc, one.text),
         (None, Some(other)) => plain(alloc, other.text),
@@ -62,11 +62,11 @@ pub(crate) fn change_cell(
     alloc: Global,
     old: &Source,
     new: &Source,
-    row: Row,
+    deciders: Deciders,
 ) -> Result<Text, AllocError> {
     let (before, after) = (
-        decider_text(alloc, old, row.old)?,
-        decider_text(alloc, new, row.new)?,
+        decider_text(alloc, old, deciders.old)?,
+        decider_text(alloc, new, deciders.new)?,
     );
     Ok(Text::from(format!(in alloc; "{before} -> {after}")?))
 }
@@ -82,14 +82,28 @@ fn channel_text(alloc: Global, example: &Example) -> Result<Text, AllocError> {
 /// An example, in the words of a question.
 pub(crate) fn example_cell(
     alloc: Global,
-    found: Option<Example>,
+    example: &Example,
     directory: &Directory,
 ) -> Result<Text, AllocError> {
-    let Some(example) = found else {
-        return Text::new(alloc, "no example found");
-    };
     let asker = principals_text(alloc, Principals::One(example.principal), directory)?;
-    let channel = plain(alloc, channel_text(alloc, &example)?.as_str())?;
+    let channel = plain(alloc, channel_text(alloc, example)?.as_str())?;
     let (act, stream) = (example.act.name(), example.stream);
     Ok(Text::from(format!(in alloc; "{asker} {act} {channel} {stream}")?))
+}
+
+/// Whose requests a row is of: a name, `*` for everybody, `all but` a name, or `others` for everybody whom no rule names.
+pub(crate) fn asker_cell(
+    alloc: Global,
+    asker: Asker,
+    directory: &Directory,
+) -> Result<Text, AllocError> {
+    match asker {
+        Asker::Every => principals_text(alloc, Principals::Any, directory),
+        Asker::One(number) => principals_text(alloc, Principals::One(number), directory),
+        Asker::But(number) => {
+            let name = principals_text(alloc, Principals::One(number), directory)?;
+            Ok(Text::from(format!(in alloc; "all but {name}")?))
+        }
+        Asker::Others => Text::new(alloc, "others"),
+    }
 }

@@ -1,40 +1,39 @@
-ghost use Rattle.policy_diff.specs.Diff.{IsDecider, IsDiff, all_rows, is_row, is_within, meet, reach_from, rows_from, rule_of, word_of};
+ghost use Rattle.policy_diff.specs.Diff.{IsDecider, all_pairs, is_pair, is_within, meet, reach_from, pairs_from, rule_of, word_of};
 ghost use Rattle.std.specs.Prelude.{◌≡◌, ◌++◌, ◌∷◌, [], IfOk, OnOk, filter, length, map};
 ghost use Rattle.policy_diff.specs.Reach.{reach_of};
 
 use crate::reach::{Reach, is_upto, reaches_of};
-use crate::sharing::may_meet;
 use policy_core::Policy;
-use policy_tools::Source;
+use policy_tools::{Source, may_meet};
 use std::alloc::{AllocError, Global};
 
 /// What decides in an old policy and what in a new one: the place of a rule, counted from 0, or `None` for the default.
 #[derive(Clone, Copy, Debug, PartialEq, Eq)]
-pub struct Row {
+pub struct Deciders {
     pub old: Option<usize>,
     pub new: Option<usize>,
 }
 
 /// The word of what decides.
 pub(crate) fn word_of(policy: &Policy, decider: Option<usize>) -> bool
-    requires { IsDecider policy.now decider }
     ensures { result ≡ word_of policy.now decider }
 {
+    let rules = policy.rules();
     match decider {
-        Some(at) => policy.rules()[at].allow,
+        Some(at) => at < rules.len() && rules[at].allow,
         None => policy.default_allows(),
     }
 }
 
 /// Whether the two of a row stand where the requests of a rule may be decided.
-fn is_within(row: Row, reach: Reach) -> bool
+fn is_within(row: Deciders, reach: Reach) -> bool
     ensures { result ≡ is_within row reach }
 {
     is_upto(row.old, reach.old) && is_upto(row.new, reach.new)
 }
 
 /// Whether some request may match the two rules of a row; the default may meet each.
-fn meet(old: &Source, new: &Source, row: Row) -> bool
+fn meet(old: &Source, new: &Source, row: Deciders) -> bool
     requires old_decider { IsDecider old.now.policy row.old }
     requires new_decider { IsDecider new.now.policy row.new }
     ensures { result ≡ meet old.now.policy new.now.policy row }
@@ -49,12 +48,12 @@ fn meet(old: &Source, new: &Source, row: Row) -> bool
 }
 
 /// Whether it is a row, where the reaches of its two are known.
-fn is_row(old: &Source, new: &Source, row: Row, one: Reach, other: Reach) -> bool
+fn is_pair(old: &Source, new: &Source, row: Deciders, one: Reach, other: Reach) -> bool
     requires old_decider { IsDecider old.now.policy row.old }
     requires new_decider { IsDecider new.now.policy row.new }
     requires old_reach { one ≡ reach_from old.now.policy new.now.policy (rule_of old.now.policy row.old) }
     requires new_reach { other ≡ reach_from old.now.policy new.now.policy (rule_of new.now.policy row.new) }
-    ensures { result ≡ is_row old.now.policy new.now.policy row }
+    ensures { result ≡ is_pair old.now.policy new.now.policy row }
 {
     if word_of(old.policy(), row.old) == word_of(new.policy(), row.new) {
         return false;
@@ -66,17 +65,17 @@ fn is_row(old: &Source, new: &Source, row: Row, one: Reach, other: Reach) -> boo
 fn push_row(
     old: &Source,
     new: &Source,
-    row: Row,
+    row: Deciders,
     reaches: (Reach, Reach),
-    rows: &mut Vec<Row>,
+    rows: &mut Vec<Deciders>,
 ) -> Result<(), AllocError>
     requires old_decider { IsDecider old.now.policy row.old }
     requires new_decider { IsDecider new.now.policy row.new }
     requires old_reach { reaches.0 ≡ reach_from old.now.policy new.now.policy (rule_of old.now.policy row.old) }
     requires new_reach { reaches.1 ≡ reach_from old.now.policy new.now.policy (rule_of new.now.policy row.new) }
-    ensures { OnOk result (rows.new.items ≡ rows.old.items ++ filter (is_row old.now.policy new.now.policy) (row ∷ [])) }
+    ensures { OnOk result (rows.new.items ≡ rows.old.items ++ filter (is_pair old.now.policy new.now.policy) (row ∷ [])) }
 {
-    if is_row(old, new, row, reaches.0, reaches.1) {
+    if is_pair(old, new, row, reaches.0, reaches.1) {
         rows.push(row)?;
     }
     Ok(())
@@ -89,21 +88,21 @@ fn push_rows(
     decider: Option<usize>,
     reach: Reach,
     reaches: &[Reach],
-    rows: &mut Vec<Row>,
+    rows: &mut Vec<Deciders>,
 ) -> Result<(), AllocError>
     requires old_decider { IsDecider old.now.policy decider }
     requires old_reach { reach ≡ reach_from old.now.policy new.now.policy (rule_of old.now.policy decider) }
     requires new_reaches { reaches.now ≡ map (reach_of old.now.policy new.now.policy) new.now.policy.rules }
-    ensures { OnOk result (rows.new.items ≡ rows.old.items ++ rows_from old.now.policy new.now.policy decider) }
+    ensures { OnOk result (rows.new.items ≡ rows.old.items ++ pairs_from old.now.policy new.now.policy decider) }
 {
     for at in 0..reaches.len() {
-        let row = Row {
+        let row = Deciders {
             old: decider,
             new: Some(at),
         };
         push_row(old, new, row, (reach, reaches[at]), rows)?;
     }
-    let last = Row {
+    let last = Deciders {
         old: decider,
         new: None,
     };
@@ -116,11 +115,11 @@ fn push_all(
     new: &Source,
     old_reaches: &[Reach],
     new_reaches: &[Reach],
-    rows: &mut Vec<Row>,
+    rows: &mut Vec<Deciders>,
 ) -> Result<(), AllocError>
     requires of_old { old_reaches.now ≡ map (reach_of old.now.policy new.now.policy) old.now.policy.rules }
     requires of_new { new_reaches.now ≡ map (reach_of old.now.policy new.now.policy) new.now.policy.rules }
-    ensures { OnOk result (rows.new.items ≡ rows.old.items ++ all_rows old.now.policy new.now.policy) }
+    ensures { OnOk result (rows.new.items ≡ rows.old.items ++ all_pairs old.now.policy new.now.policy) }
 {
     for at in 0..old_reaches.len() {
         push_rows(old, new, Some(at), old_reaches[at], new_reaches, rows)?;
@@ -128,12 +127,15 @@ fn push_all(
     push_rows(old, new, None, Reach::ALL, new_reaches, rows)
 }
 
-/// The rows of two policies: all pairs of what decides in the old one and in the new one, with different words, of which
-/// some request may be decided by the one and by the other. They stand in the order of the old policy's rules, and under
-/// each rule in that of the new one's; the default is the last one. Each request that one policy allows and the other denies
-/// is decided by the two of a row.
-pub fn differences(alloc: Global, old: &Source, new: &Source) -> Result<Vec<Row>, AllocError>
-    ensures { IfOk result (λ rows. IsDiff old.now.policy new.now.policy rows.items) }
+/// All pairs of what decides in the old policy and in the new one, with different words, of which some request may be decided by
+/// the one and by the other. They stand in the order of the old policy's rules, and under each in that of the new one's; the
+/// default is the last one.
+pub(crate) fn pairs_of(
+    alloc: Global,
+    old: &Source,
+    new: &Source,
+) -> Result<Vec<Deciders>, AllocError>
+    ensures { IfOk result (λ pairs. pairs.items ≡ all_pairs old.now.policy new.now.policy) }
 {
     let old_reaches = reaches_of(alloc, old, new, old.rules())?;
     let new_reaches = reaches_of(alloc, old, new, new.rules())?;

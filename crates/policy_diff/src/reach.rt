@@ -1,12 +1,11 @@
 //! Where in each policy the requests of a rule are all decided.
 
 ghost use Rattle.policy_diff.specs.Reach.{first_over, is_upto, reach_of};
-ghost use Rattle.policy_diff.specs.Sharing.{is_over};
+ghost use Rattle.policy_tools.specs.Sharing.{is_over};
 ghost use Rattle.std.specs.Prelude.{◌≡◌, ◌<◌, IfOk, length, map, slice_index_or};
 
-use crate::sharing::is_over;
 use policy_core::Rule;
-use policy_tools::Source;
+use policy_tools::{Source, is_over};
 use std::alloc::{AllocError, Global};
 
 /// The first rule of each policy that is over a rule: it, or one before it, decides each request of that rule. The places

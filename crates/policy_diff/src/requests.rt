@@ -45,6 +45,14 @@ pub(crate) fn medium_of(one: Option<Written<'_>>, other: Option<Written<'_>>) ->
     None
 }
 
+/// Whether the pattern wants a value of which only the beginning is said.
+pub(crate) fn has_beginning(written: Option<Written<'_>>) -> bool {
+    match written {
+        Some(written) => written.text.contains('*'),
+        None => false,
+    }
+}
+
 /// The value that a pattern wants of a key.
 fn wanted_of<'a>(written: Option<Written<'a>>, key: &str) -> Option<&'a str> {
     match written?.pattern {

@@ -1,6 +1,6 @@
 use Rattle.std.proofs.Common.{◌<◌, ◌∙◌, List, length, subst, sym, arith}
 use Rattle.policy_core.specs.declared.rule.Rule.{Rule}
-use Rattle.policy_diff.specs.Sharing.{is_over}
+use Rattle.policy_tools.specs.Sharing.{is_over}
 use Rattle.policy_diff.proofs.ReachLemmas.{position_is, position_none}
 use Rattle.policy_diff.proofs.reach.first_over.Goals as goal
 

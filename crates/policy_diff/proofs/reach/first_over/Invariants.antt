@@ -1,5 +1,5 @@
 use Rattle.std.proofs.Common.{◌≡◌, ℕ, ◌<◌, false, get_or}
-use Rattle.policy_diff.specs.Sharing.{is_over}
+use Rattle.policy_tools.specs.Sharing.{is_over}
 use Rattle.policy_diff.proofs.reach.first_over.Given as goal
 
 -- no rule so far is over it
