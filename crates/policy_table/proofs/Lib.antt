@@ -1,5 +1,9 @@
+pub mod GroupLemmas
+pub mod LaneLemmas
 pub mod NamedLemmas
 pub mod PartLemmas
+pub mod PrintLemmas
+pub mod StepLemmas
 pub mod StreamLemmas
 pub mod StretchLemmas
 pub mod TableLemmas

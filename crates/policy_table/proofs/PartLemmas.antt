@@ -3,6 +3,7 @@ use Rattle.std.proofs.Common.{◌≡◌, ℕ, ℤ, pos, negsuc, ◌+◌, ◌-◌
 use Rattle.std.proofs.lemmas.Bool.{and_parts, cases_Bool, cases_eq}
 use Rattle.std.proofs.lemmas.Int.{ints}
 use Rattle.std.specs.Prelude.{int_le, int_lt}
+use Rattle.policy_table.specs.Lane.{left_of}
 use Rattle.policy_table.specs.Scope.{is_stream, is_within}
 use Rattle.policy_table.specs.Table.{one_if}
 use Rattle.policy_table.proofs.StreamLemmas.{le_false, le_true, lt_false}
@@ -47,11 +48,6 @@ last_part low stream h =
     (λ before. let under = le_false low stream before in rw (lt_true stream low under, within_false_low low (pos 2147483647) stream under) refl)
     (cases_Bool (int_le low stream))
 
--- how many streams are left
-pub left_of : ℤ → ℕ
-left_of (pos n) = 2147483647 - n
-left_of (negsuc n) = 2147483648 + n
-
 less_above : (low next : ℕ) → low < next → next ≤ 2147483647 → 2147483647 - next < 2147483647 - low
 less_above low next order within = omega arith
 
@@ -62,7 +58,6 @@ less_below : (low next : ℕ) → next < low → 2147483648 + next < 2147483648 
 less_below low next order = omega arith
 
 pub left_less : (low high next : ℤ) → low ≤ℤ high → high <ℤ pos 2147483647 → next ≡ high +ℤ pos 1 → left_of next < left_of low
-unfolding left_of
 left_less (pos l) high (pos n) order within step = less_above l n (omega (arith, ints)) (omega (arith, ints))
 left_less (pos l) high (negsuc n) order within step = absurd (omega (arith, ints))
 left_less (negsuc l) high (pos n) order within step = less_across l n

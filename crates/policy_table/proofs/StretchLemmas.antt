@@ -1,11 +1,12 @@
 -- What one more rule adds to a stretch.
-use Rattle.std.proofs.Common.{◌≡◌, ℕ, ℤ, ◌+◌, ◌<◌, ◌≤ℤ◌, Bool, true, false, cond, not, ◌&&◌, List, [], ◌∷◌, ◌++◌, Option, Some, None, length, get_or, take, drop, map, position, find, refl, sym, ap, ◌∙◌, subst, ⊎_elim, arith, eqb}
-use Rattle.std.proofs.lemmas.Bool.{and_from, and_parts, and_right, cases_Bool, eq-eqb, eqb-true, false_from_ne_true, not-true, true≢false}
-use Rattle.std.proofs.lemmas.List.{append-nil}
+use Rattle.std.proofs.Common.{◌≡◌, ℕ, ℤ, ◌+◌, ◌-◌, ◌<◌, ◌≤◌, ◌≤ℤ◌, Bool, true, false, cond, not, ◌&&◌, List, [], ◌∷◌, ◌++◌, Option, Some, None, length, get_or, take, drop, position, refl, sym, ap, ◌∙◌, subst, ⊎_elim, append_assoc, length-append, arith, eqb}
+use Rattle.std.proofs.lemmas.Bool.{and_from, and_parts, cases_Bool, eq-eqb, eqb-true, false_from_ne_true, not-true, true≢false}
+use Rattle.std.proofs.lemmas.List.{append-nil, at_drop_all, at_drop_more, get_or-append_right, length_push}
+use Rattle.std.proofs.lemmas.Int.{ints}
 use Rattle.std.proofs.lemmas.Iterator.Adapters.{position_from-zero}
 use Rattle.std.proofs.lemmas.List.{get_or-map, length-take-le, take-append-drop, take_all, take_more}
 use Rattle.std.proofs.lemmas.List.Folds.{find-append, list_any_at}
-use Rattle.std.specs.List.{list_any, position_from}
+use Rattle.std.specs.List.{position_from}
 use Rattle.std.specs.Option.{option_or}
 use Rattle.channel_uri.specs.Channel.{Shape}
 use Rattle.channel_uri.specs.Pattern.{covers}
@@ -15,18 +16,41 @@ use Rattle.policy_core.specs.Act.{act_number}
 use Rattle.policy_core.specs.Acts.{holds}
 use Rattle.policy_core.specs.Question.{Question}
 use Rattle.policy_core.specs.Rule.{matches, speaks_of}
-use Rattle.policy_core.specs.declared.act.Act.{Act}
 use Rattle.policy_core.specs.declared.rule.Principals.{Principals}
 use Rattle.policy_core.specs.declared.rule.Principals.TheVariants.{Any, One as Only}
 use Rattle.policy_core.specs.declared.rule.Rule.{Rule}
 use Rattle.policy_table.specs.Scope.{is_asker, is_in, is_named, is_spoken_to, is_within, names, speaks_to}
-use Rattle.policy_table.specs.Stretch.{DecideSoFar, EndsAt, IsStretch, Looks, in_range, is_any, speaks_of_low, up_to}
+use Rattle.policy_table.specs.Lane.{up_to}
+use Rattle.policy_table.specs.Stretch.{Span, closes, end_at, in_range, is_any, look, looked, span_at, speaks_of_low}
 use Rattle.policy_table.specs.Table.{covers_at, first_of}
 use Rattle.policy_table.specs.declared.scope.Asker.{Asker}
 use Rattle.policy_table.specs.declared.scope.Asker.TheVariants.{One, Others}
 use Rattle.policy_table.specs.declared.scope.Scope.{Scope}
-use Rattle.policy_table.specs.declared.stretch.Stretch.{Stretch}
-use Rattle.policy_table.proofs.StreamLemmas.{within_wider}
+use Rattle.policy_table.proofs.StreamLemmas.{end_is, within_wider}
+
+-- the span ends where the rule's range starts or ends, and has the rule's place if the rule speaks of its requests; it has
+-- the last one where that rule covers every channel
+pub record Looks (rule : Rule) (place : ℕ) (scope : Scope) (old new : Span) (last : Bool) : Type 0 where
+  pub ahead : scope.low ≤ℤ new.high
+  pub within : new.high ≤ℤ old.high
+  pub alike : speaks_to rule scope.asker scope.act ≡ true → (stream : ℤ) → is_within scope.low new.high stream ≡ true
+      → in_range rule stream ≡ in_range rule scope.low
+  pub places : new.places ≡ old.places ++ cond (speaks_of_low rule scope) (place ∷ []) []
+  pub speaks : last ≡ true → speaks_of_low rule scope ≡ true
+  pub every : last ≡ true → is_any rule.channel ≡ true
+
+-- of the first `count` rules, the first that matches a request of the scope up to `high`, is the first of those at these places
+-- whose pattern covers the channel
+pub record DecideSoFar (rules : List Rule) (scope : Scope) (high : ℤ) (places : List ℕ) (count : ℕ) : Type 0 where
+  pub first : (question : Question) → is_in rules (up_to scope high) question ≡ true
+      → position (λ rule. matches rule question) (take count rules) ≡ first_of rules places question.channel
+
+-- so it is of all rules
+pub record IsStretch (rules : List Rule) (scope : Scope) (stretch : Span) : Type 0 where
+  pub ahead : scope.low ≤ℤ stretch.high
+  pub within : stretch.high ≤ℤ scope.high
+  pub first : (question : Question) → is_in rules (up_to scope stretch.high) question ≡ true
+      → position (λ rule. matches rule question) rules ≡ first_of rules stretch.places question.channel
 
 -- ---- the first one in a list that grows
 
@@ -99,7 +123,7 @@ bools true true false true false = refl
 bools true true false false e = refl
 
 -- the rule matches where it speaks of the scope and covers the channel
-matches_as : (rules : List Rule) (at : ℕ) (rule : Rule) (scope : Scope) (old new : Stretch) (last : Bool) (question : Question)
+matches_as : (rules : List Rule) (at : ℕ) (rule : Rule) (scope : Scope) (old new : Span) (last : Bool) (question : Question)
     → at < length rules → get_or rules at rule ≡ rule → Looks rule at scope old new last → Fits rules scope new.high question
     → matches rule question ≡ cond (speaks_of_low rule scope) (covers rule.channel question.channel) false
 unfolding matches
@@ -131,9 +155,9 @@ fits_wider : (rules : List Rule) (scope : Scope) (near far : ℤ) (question : Qu
 fits_wider rules scope near far question wide fits =
     record { asker = fits.asker; act = fits.act; within = within_wider scope.low near far question.stream wide fits.within }
 
-pub so_far_more : (rules : List Rule) (at : ℕ) (rule : Rule) (scope : Scope) (old new : Stretch) (last : Bool)
+pub so_far_more : (rules : List Rule) (at : ℕ) (rule : Rule) (scope : Scope) (old new : Span) (last : Bool)
     → at < length rules → get_or rules at rule ≡ rule → Looks rule at scope old new last
-    → DecideSoFar rules scope old.high old.rules.items at → DecideSoFar rules scope new.high new.rules.items (at + 1)
+    → DecideSoFar rules scope old.high old.places at → DecideSoFar rules scope new.high new.places (at + 1)
 so_far_more rules at rule scope old new last inside is looks before = record {
   first = λ question h.
       let fits = fits_of rules scope new.high question h in
@@ -142,14 +166,14 @@ so_far_more rules at rule scope old new last inside is looks before = record {
       position_more (λ r. matches r question) rules at rule inside
       ∙ ap (λ t. option_or (position (λ r. matches r question) (take at rules)) (cond t (Some at) None)) here
       ∙ ap (λ o. option_or o (cond (cond (speaks_of_low rule scope) (covers rule.channel question.channel) false) (Some at) None)) was
-      ∙ sym (first_more rules old.rules.items at rule question.channel (speaks_of_low rule scope) inside is)
+      ∙ sym (first_more rules old.places at rule question.channel (speaks_of_low rule scope) inside is)
       ∙ ap (λ places. first_of rules places question.channel) (sym looks.places);
 }
 
 -- ---- the end
 
-pub all_looked : (rules : List Rule) (scope : Scope) (stretch : Stretch) (count : ℕ) → scope.low ≤ℤ stretch.high → stretch.high ≤ℤ scope.high
-    → DecideSoFar rules scope stretch.high stretch.rules.items count → length rules < count + 1 → IsStretch rules scope stretch
+pub all_looked : (rules : List Rule) (scope : Scope) (stretch : Span) (count : ℕ) → scope.low ≤ℤ stretch.high → stretch.high ≤ℤ scope.high
+    → DecideSoFar rules scope stretch.high stretch.places count → length rules < count + 1 → IsStretch rules scope stretch
 all_looked rules scope stretch count ahead within so_far all = record {
   ahead = ahead;
   within = within;
@@ -165,9 +189,9 @@ option_or_some : (first : Option ℕ) (at : ℕ) (rest : Option ℕ) → option_
 option_or_some None at rest = refl
 option_or_some (Some place) at rest = refl
 
-pub last_looked : (rules : List Rule) (at : ℕ) (rule : Rule) (scope : Scope) (old new : Stretch)
+pub last_looked : (rules : List Rule) (at : ℕ) (rule : Rule) (scope : Scope) (old new : Span)
     → at < length rules → get_or rules at rule ≡ rule → Looks rule at scope old new true → new.high ≤ℤ scope.high
-    → DecideSoFar rules scope new.high new.rules.items (at + 1) → IsStretch rules scope new
+    → DecideSoFar rules scope new.high new.places (at + 1) → IsStretch rules scope new
 last_looked rules at rule scope old new inside is looks within so_far = record {
   ahead = looks.ahead;
   within = within;
@@ -188,29 +212,106 @@ last_looked rules at rule scope old new inside is looks within so_far = record {
 
 -- ---- one look
 
-pub looks_past : (rule : Rule) (place : ℕ) (scope : Scope) (old new : Stretch) (end : ℤ) → EndsAt rule scope.low old.high end → new.high ≡ end
-    → new.rules.items ≡ old.rules.items → in_range rule scope.low ≡ false → Looks rule place scope old new false
-looks_past rule place scope old new end ends high rules past =
-    let out : speaks_of_low rule scope ≡ false = and_right _ _ past in
+looks_by : (rule : Rule) (place : ℕ) (scope : Scope) (span : Span) (speaks : Bool) → speaks_to rule scope.asker scope.act ≡ speaks → scope.low ≤ℤ span.high
+    → Looks rule place scope span
+    (cond speaks (record { high = end_at rule scope.low span.high; places = span.places ++ cond (in_range rule scope.low) (place ∷ []) [] }) span)
+    (speaks && in_range rule scope.low && is_any rule.channel)
+looks_by rule place scope span false e order = record {
+  ahead = order;
+  within = omega (arith, ints);
+  alike = λ speaks. absurd (true≢false (sym speaks ∙ e));
+  places = sym (append-nil span.places) ∙ ap (λ t. span.places ++ cond (t && in_range rule scope.low) (place ∷ []) []) (sym e);
+  speaks = λ h. absurd (true≢false (sym h));
+  every = λ h. absurd (true≢false (sym h));
+}
+looks_by rule place scope span true e order =
+    let ends = end_is rule scope.low span.high order in
     record {
-      ahead = subst (λ (z : ℤ). scope.low ≤ℤ z) (sym high) ends.ahead;
-      within = subst (λ (z : ℤ). z ≤ℤ old.high) (sym high) ends.within;
-      alike = λ speaks. subst (λ (z : ℤ). (stream : ℤ) → is_within scope.low z stream ≡ true → in_range rule stream ≡ in_range rule scope.low) (sym high) ends.alike;
-      places = rules ∙ sym (append-nil old.rules.items) ∙ ap (λ t. old.rules.items ++ cond t (place ∷ []) []) (sym out);
-      speaks = λ h. absurd (true≢false (sym h));
-      every = λ h. absurd (true≢false (sym h));
+      ahead = ends.ahead;
+      within = ends.within;
+      alike = λ speaks. ends.alike;
+      places = ap (λ t. span.places ++ cond (t && in_range rule scope.low) (place ∷ []) []) (sym e);
+      speaks = λ h. ap (λ t. t && in_range rule scope.low) e ∙ (and_parts (in_range rule scope.low) (is_any rule.channel) h).0;
+      every = λ h. (and_parts (in_range rule scope.low) (is_any rule.channel) h).1;
     }
 
-pub looks_in : (rule : Rule) (place : ℕ) (scope : Scope) (old new : Stretch) (end : ℤ) (last : Bool) → EndsAt rule scope.low old.high end → new.high ≡ end
-    → new.rules.items ≡ old.rules.items ++ place ∷ [] → speaks_to rule scope.asker scope.act ≡ true → in_range rule scope.low ≡ true
-    → last ≡ is_any rule.channel → Looks rule place scope old new last
-looks_in rule place scope old new end last ends high rules speaks inside every =
-    let low : speaks_of_low rule scope ≡ true = and_from _ _ speaks inside in
-    record {
-      ahead = subst (λ (z : ℤ). scope.low ≤ℤ z) (sym high) ends.ahead;
-      within = subst (λ (z : ℤ). z ≤ℤ old.high) (sym high) ends.within;
-      alike = λ _. subst (λ (z : ℤ). (stream : ℤ) → is_within scope.low z stream ≡ true → in_range rule stream ≡ in_range rule scope.low) (sym high) ends.alike;
-      places = rules ∙ ap (λ t. old.rules.items ++ cond t (place ∷ []) []) (sym low);
-      speaks = λ h. low;
-      every = λ h. sym every ∙ h;
-    }
+pub looks_is : (rule : Rule) (place : ℕ) (scope : Scope) (span : Span) → scope.low ≤ℤ span.high
+    → Looks rule place scope span (look rule place scope span) (closes rule scope)
+looks_is rule place scope span order = looks_by rule place scope span (speaks_to rule scope.asker scope.act) refl order
+
+-- ---- all rules
+
+here_is : (done : List Rule) (rule : Rule) (more : List Rule) (at : ℕ) → length done ≡ at → get_or (done ++ rule ∷ more) at rule ≡ rule
+here_is done rule more at e =
+    let zero_is : at - at ≡ 0 = omega arith in
+    get_or-append_right done (rule ∷ more) at at rule e (omega arith) ∙ ap (λ n. get_or (rule ∷ more) n rule) zero_is
+
+is_inside : (done : List Rule) (rule : Rule) (more : List Rule) (at : ℕ) → length done ≡ at → at < length (done ++ rule ∷ more)
+is_inside done rule more at e = let whole = length-append done (rule ∷ more) in omega (arith, whole)
+
+looked_is : (rest done : List Rule) (at : ℕ) (scope : Scope) (span : Span) → length done ≡ at → scope.low ≤ℤ span.high → span.high ≤ℤ scope.high
+    → DecideSoFar (done ++ rest) scope span.high span.places at → IsStretch (done ++ rest) scope (looked rest at scope span)
+looked_is [] done at scope span e ahead within so_far =
+    let whole = length-append done [] in
+    all_looked (done ++ []) scope span at ahead within so_far (omega (arith, whole))
+looked_is (rule ∷ more) done at scope span e ahead within so_far =
+    let rules = done ++ rule ∷ more in
+    let new = look rule at scope span in
+    let inside = is_inside done rule more at e in
+    let is = here_is done rule more at e in
+    let looks = looks_is rule at scope span ahead in
+    let near : new.high ≤ℤ scope.high = let a = looks.within in omega (arith, ints) in
+    let after = so_far_more rules at rule scope span new (closes rule scope) inside is looks so_far in
+    let same : (done ++ rule ∷ []) ++ more ≡ rules = append_assoc done (rule ∷ []) more in
+    let rest : IsStretch rules scope (looked more (at + 1) scope new) =
+    subst (λ (own : List Rule). IsStretch own scope (looked more (at + 1) scope new)) same
+    (looked_is more (done ++ rule ∷ []) (at + 1) scope new (length_push done rule ∙ ap (λ n. n + 1) e) looks.ahead near
+    (subst (λ (own : List Rule). DecideSoFar own scope new.high new.places (at + 1)) (sym same) after)) in
+    ⊎_elim
+    (λ yes. subst (λ (last : Bool). IsStretch rules scope (cond last new (looked more (at + 1) scope new))) (sym yes)
+    (last_looked rules at rule scope span new inside is (subst (λ (last : Bool). Looks rule at scope span new last) yes looks) near after))
+    (λ no. subst (λ (last : Bool). IsStretch rules scope (cond last new (looked more (at + 1) scope new))) (sym no) rest)
+    (cases_Bool (closes rule scope))
+
+-- the span at a scope's low stream decides its requests
+pub span_is : (rules : List Rule) (scope : Scope) → scope.low ≤ℤ scope.high → IsStretch rules scope (span_at rules scope)
+unfolding span_at
+span_is rules scope order =
+    looked_is rules [] 0 scope (record { high = scope.high; places = [] }) refl order (omega (arith, ints)) (record { first = λ question h. refl })
+
+-- ---- how it is found
+
+looked_here : (rules : List Rule) (scope : Scope) (at : ℕ) (rule : Rule) (old : Span) → at < length rules → get_or rules at rule ≡ rule
+    → looked (drop at rules) at scope old
+    ≡ cond (closes rule scope) (look rule at scope old) (looked (drop (at + 1) rules) (at + 1) scope (look rule at scope old))
+looked_here rules scope at rule old inside is =
+    at_drop_more (λ (l : List Rule). looked l at scope old) rules at rule inside
+    ∙ ap (λ (r : Rule). looked (r ∷ drop (at + 1) rules) at scope old) is
+
+pub stretch_goes_on : (rules : List Rule) (scope : Scope) (at : ℕ) (rule : Rule) (old new : Span) → at < length rules → get_or rules at rule ≡ rule
+    → looked (drop at rules) at scope old ≡ span_at rules scope → new ≡ look rule at scope old → closes rule scope ≡ false
+    → looked (drop (at + 1) rules) (at + 1) scope new ≡ span_at rules scope
+stretch_goes_on rules scope at rule old new inside is before looks is_false =
+    ap (looked (drop (at + 1) rules) (at + 1) scope) looks
+    ∙ sym (ap (λ (b : Bool). cond b (look rule at scope old) (looked (drop (at + 1) rules) (at + 1) scope (look rule at scope old))) is_false)
+    ∙ sym (looked_here rules scope at rule old inside is) ∙ before
+
+pub stretch_ends : (rules : List Rule) (scope : Scope) (at : ℕ) (rule : Rule) (old new : Span) → at < length rules → get_or rules at rule ≡ rule
+    → looked (drop at rules) at scope old ≡ span_at rules scope → new ≡ look rule at scope old → closes rule scope ≡ true
+    → new ≡ span_at rules scope
+stretch_ends rules scope at rule old new inside is before looks is_true =
+    looks
+    ∙ sym (ap (λ (b : Bool). cond b (look rule at scope old) (looked (drop (at + 1) rules) (at + 1) scope (look rule at scope old))) is_true)
+    ∙ sym (looked_here rules scope at rule old inside is) ∙ before
+
+pub stretch_whole : (rules : List Rule) (scope : Scope) (at : ℕ) (old : Span) → length rules ≤ at
+    → looked (drop at rules) at scope old ≡ span_at rules scope → old ≡ span_at rules scope
+stretch_whole rules scope at old past before =
+    sym (at_drop_all (λ (l : List Rule). looked l at scope old) rules at past) ∙ before
+
+pub stretch_starts : (rules : List Rule) (scope : Scope) (high : ℤ) (places : List ℕ) → high ≡ scope.high → places ≡ []
+    → looked rules 0 scope (record { high = high; places = places }) ≡ span_at rules scope
+unfolding span_at
+stretch_starts rules scope high places same none =
+    ap (λ (z : ℤ). looked rules 0 scope (record { high = z; places = places })) same
+    ∙ ap (λ (l : List ℕ). looked rules 0 scope (record { high = scope.high; places = l })) none

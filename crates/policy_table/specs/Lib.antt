@@ -1,3 +1,6 @@
+pub mod Lane
+pub mod Printed
+pub mod Rows
 pub mod Scope
 pub mod Stretch
 pub mod Table

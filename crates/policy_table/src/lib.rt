@@ -1,17 +1,20 @@
 //! Who may do what under a policy.
 //!
-//! [`table`] cuts all requests into blocks, each of one asker, one act and an interval of streams, and gives of each block
-//! the rules that decide its requests, in their order. [`table_text`] writes them as rows.
+//! All requests are cut into parts, each of one asker, one act and an interval of streams, with the rules that decide its
+//! requests, in their order. A [`Table`] counts the rows that these come to, and prints them page by page: a row is made when it is
+//! printed, so that a long table takes no more memory than a short one.
 #![tactic(auto)]
 
 mod askers;
-mod blocks;
-mod columns;
-mod lanes;
-mod lines;
+mod cells;
+mod entries;
+mod groups;
 mod scope;
+mod steps;
 mod stretch;
+mod table;
 
-pub use blocks::{Block, table, table_of};
-pub use lines::table_text;
-pub use scope::{Asker, Scope};
+pub use entries::TableRow;
+pub use scope::Asker;
+pub use steps::Place;
+pub use table::{FULL_PAGE, MOST_ROWS, Page, Table};

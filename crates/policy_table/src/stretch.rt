@@ -1,5 +1,5 @@
-ghost use Rattle.policy_table.specs.Stretch.{EndsAt, IsLeast, IsStretch, Looks, in_range, is_any};
-ghost use Rattle.std.specs.Prelude.{◌≡◌, ◌≤ℤ◌, IfOk};
+ghost use Rattle.policy_table.specs.Stretch.{closes, end_at, in_range, is_any, least, look, looked, span_at, span_of};
+ghost use Rattle.std.specs.Prelude.{◌≡◌, IfOk};
 
 use crate::scope::{Scope, speaks_to};
 use channel_uri::Pattern;
@@ -17,17 +17,16 @@ pub(crate) struct Stretch {
 
 /// The lesser of two streams.
 fn least(one: i32, other: i32) -> i32
-    ensures { IsLeast one other result }
+    ensures { result ≡ least one other }
 {
-    if one < other { one } else { other }
+    if one <= other { one } else { other }
 }
 
 /// The stream up to which, from `low` on and not beyond `high`, the rule's range holds every stream or none.
 fn end_of(rule: &Rule, low: i32, high: i32) -> i32
-    requires { low ≤ℤ high }
-    ensures { EndsAt rule.now low high result }
+    ensures { result ≡ end_at rule.now low high }
 {
-    if low < rule.low {
+    if rule.low > low {
         return least(rule.low - 1, high);
     }
     if low <= rule.high {
@@ -56,8 +55,8 @@ fn is_any(pattern: &Pattern) -> bool
 impl Stretch {
     /// Looks at one more rule, the one at this place. Whether it covers every channel, so that those after it decide nothing.
     fn look_at(&mut self, rule: &Rule, place: usize, scope: &Scope) -> Result<bool, AllocError>
-        requires { scope.now.low ≤ℤ self.old.high }
-        ensures { IfOk result (λ last. Looks rule.now place scope.now self.old self.new last) }
+        ensures looks { IfOk result (λ last. span_of self.new ≡ look rule.now place scope.now (span_of self.old)) }
+        ensures closes { IfOk result (λ last. last ≡ closes rule.now scope.now) }
     {
         if !speaks_to(rule, scope.asker, scope.act) {
             return Ok(false);
@@ -78,8 +77,7 @@ pub(crate) fn stretch_of(
     rules: &[Rule],
     scope: &Scope,
 ) -> Result<Stretch, AllocError>
-    requires { scope.now.low ≤ℤ scope.now.high }
-    ensures { IfOk result (λ stretch. IsStretch rules.now scope.now stretch) }
+    ensures { IfOk result (λ stretch. span_of stretch ≡ span_at rules.now scope.now) }
 {
     let mut stretch = Stretch {
         high: scope.high,

@@ -1,11 +1,7 @@
-use Rattle.std.proofs.Common.{◌≤ℤ◌}
-use Rattle.policy_table.specs.Stretch.{DecideSoFar}
+use Rattle.std.proofs.Common.{◌≡◌, drop}
+use Rattle.policy_table.specs.Stretch.{looked, span_at, span_of}
 use Rattle.policy_table.proofs.stretch.stretch_of.Given as goal
 
--- the rules so far decide by the places so far
+-- with the rules that are left, the span so far becomes that of all rules
 abbrev pub invariant-loop-place : goal.invariant-loop-place
-invariant-loop-place l = record {
-  ahead : l.scope.low ≤ℤ l.stretch.high;
-  within : l.stretch.high ≤ℤ l.scope.high;
-  so_far : DecideSoFar l.rules l.scope l.stretch.high l.stretch.rules.items l.place;
-}
+invariant-loop-place l = looked (drop l.place l.rules) l.place l.scope (span_of l.stretch) ≡ span_at l.rules l.scope
