@@ -1,5 +1,6 @@
 pub mod EndingLemmas
 pub mod HeldLemmas
+pub mod HiderLemmas
 pub mod HidingLemmas
 pub mod LastingLemmas
 pub mod NobodyLemmas

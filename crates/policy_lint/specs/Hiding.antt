@@ -1,5 +1,6 @@
 -- When a rule of a policy never decides, since rules before it take each request from it.
-use Rattle.std.specs.Prelude.{◌≡◌, ◌≢◌, ℕ, ◌<◌, true, ℤ, ◌≤ℤ◌, List, Some, slice_get}
+use Rattle.std.specs.Prelude.{◌≡◌, ◌≢◌, ℕ, ◌<◌, ◌&&◌, Bool, true, ℤ, ◌≤ℤ◌, List, Some, map, slice_get}
+use Rattle.std.specs.List.{Contains}
 use Rattle.policy_core.specs.declared.act.Act.{Act}
 use Rattle.policy_core.specs.declared.rule.Rule.{Rule}
 use Rattle.policy_core.specs.Acts.{holds}
@@ -8,6 +9,9 @@ use Rattle.policy_core.specs.Question.{Question}
 use Rattle.policy_core.specs.Rule.{matches, speaks_of}
 use Rattle.policy_core.specs.RuleList.{Rules}
 use Rattle.policy_core.specs.Rules.{verdict_of}
+use Rattle.policy_lint.specs.Lasting.{outlasts}
+use Rattle.policy_lint.specs.declared.hiding.Hidden.{Hidden}
+use Rattle.policy_tools.specs.Sharing.{is_over}
 use Rattle.policy_tools.specs.Wider.{IsWider}
 
 -- at no moment a request has the rule of this number, counted from 1, as its verdict's rule
@@ -34,6 +38,25 @@ pub record IsHiddenBy (rules : List Rule) (place : ℕ) (places : List ℕ) : Ty
   pub before : AreBefore places place
   pub taken : (moment : ℕ) (question : Question) (rule : Rule) → slice_get rules place ≡ Some rule → stands_at rule moment ≡ true →
       matches rule question ≡ true → IsTaken rules places moment question
+
+-- ---- one rule that hides another one by itself
+
+-- the wide rule stands whenever the narrow one does, and each part of it is as wide
+abbrev pub hides : Rule → Rule → Bool
+hides wide narrow = outlasts wide narrow && is_over wide narrow
+
+-- the rule at this place is before the one at that place, and hides it so
+pub record IsHider (rules : List Rule) (place at : ℕ) : Type 0 where
+  pub wide : Rule
+  pub narrow : Rule
+  pub before : place < at
+  pub first : slice_get rules place ≡ Some wide
+  pub second : slice_get rules at ≡ Some narrow
+  pub hidden : hides wide narrow ≡ true
+
+-- of the rules before this place each that one rule hides by itself is found
+abbrev pub AreFound : List Rule → List Hidden → ℕ → Type 0
+AreFound rules found count = (at place : ℕ) → at < count → IsHider rules place at → Contains (map (λ hidden. hidden.at) found) at
 
 -- ---- how it is found
 

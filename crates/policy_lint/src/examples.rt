@@ -193,11 +193,22 @@ pub(crate) fn example(
     own: Spoken<'_>,
     media: Media,
 ) -> Result<Option<Channel>, AllocError> {
-    if !own.is_over(media) {
-        return Ok(None);
+    common_example(alloc, &[own], media)
+}
+
+/// A channel over `media` that all of the patterns cover, where one is found.
+pub(crate) fn common_example(
+    alloc: Global,
+    patterns: &[Spoken<'_>],
+    media: Media,
+) -> Result<Option<Channel>, AllocError> {
+    for own in patterns {
+        if !own.is_over(media) {
+            return Ok(None);
+        }
     }
     let word = media.name();
-    example_from(alloc, format!(in alloc; "aeron:{word}")?, &[own], "")
+    example_from(alloc, format!(in alloc; "aeron:{word}")?, patterns, "")
 }
 
 /// A channel on which a publication learns its destinations, and which all of the patterns cover, where one is found.

@@ -4,9 +4,10 @@ ghost use Rattle.policy_core.specs.RuleList.{Rules};
 ghost use Rattle.policy_core.specs.declared.act.Act.{Act};
 ghost use Rattle.policy_core.specs.declared.rule.Rule.{Rule};
 ghost use Rattle.policy_lint.specs.Held.{HeldAt};
-ghost use Rattle.policy_lint.specs.Hiding.{ActIsHeld, AreOver, Holds, IsHeld, IsHiddenBy, IsOverAt, NeverDecides};
-ghost use Rattle.std.specs.List.{All};
-ghost use Rattle.std.specs.Prelude.{◌≡◌, ◌+◌, ◌<◌, ◌≤ℤ◌, ◌<ℤ◌, ℕ, ℤ, List, IfOk, OnOk, Some, length, slice_get, true};
+ghost use Rattle.channel_uri.specs.Pattern.{pattern_of};
+ghost use Rattle.policy_lint.specs.Hiding.{ActIsHeld, AreFound, AreOver, Holds, IsHeld, IsHider, IsHiddenBy, IsOverAt, NeverDecides, hides};
+ghost use Rattle.std.specs.List.{All, Contains};
+ghost use Rattle.std.specs.Prelude.{◌≡◌, ◌+◌, ◌<◌, ◌≤ℤ◌, ◌<ℤ◌, ℕ, ℤ, List, IfNone, IfOk, IfSome, IsSome, Ok, OnOk, Some, length, map, slice_get, slice_index_or, true};
 
 use crate::lasting::outlasts;
 use policy_core::{Act, Principals, Rule};
@@ -33,6 +34,39 @@ fn includes(wide: Principals, narrow: Principals) -> bool
             Principals::One(other) => one == other,
         },
     }
+}
+
+/// Whether the wide rule, whose pattern has that text, hides the narrow one by itself: it stands whenever that one does, and
+/// each part of it is as wide.
+fn hides(text: &str, wide: &Rule, narrow: &Rule) -> bool
+    requires { pattern_of text.now ≡ Ok wide.now.channel }
+    ensures { result ≡ hides wide.now narrow.now }
+{
+    outlasts(wide, narrow) && policy_tools::is_over(text, wide, narrow)
+}
+
+/// Whether the rule at a place hides that one by itself.
+fn hides_at(source: &Source, place: usize, narrow: &Rule) -> bool
+    requires { place < length source.now.policy.rules }
+    ensures { result ≡ hides (slice_index_or source.now.policy.rules place narrow.now) narrow.now }
+{
+    let wide = &source.rules()[place];
+    hides(source.text(place), wide, narrow)
+}
+
+/// The first rule before `at` that hides the one there by itself.
+fn first_hider(source: &Source, at: usize) -> Option<usize>
+    requires { at < length source.now.policy.rules }
+    ensures some { IfSome result (λ place. IsHider source.now.policy.rules place at) }
+    ensures none { IfNone result ((place : ℕ) → IsHider source.now.policy.rules place at → ⊥) }
+{
+    let narrow = &source.rules()[at];
+    for place in 0..at {
+        if hides_at(source, place, narrow) {
+            return Some(place);
+        }
+    }
+    None
 }
 
 /// Whether the rule at `place` is found to be over the one at `at`: acts and streams apart, it stands whenever that one does
@@ -192,23 +226,6 @@ fn candidates(
     Ok(places)
 }
 
-/// The first rule of these places that hides the one at `at` alone.
-fn alone(rules: &[Rule], places: &[usize], at: usize) -> Option<usize>
-    requires { at < length rules.now }
-{
-    let mut found: Option<usize> = None;
-    for place in places {
-        let is_later = match found {
-            Some(first) => first < *place,
-            None => false,
-        };
-        if !is_later && acts_are_held(rules, &[*place], at) {
-            found = Some(*place);
-        }
-    }
-    found
-}
-
 /// Takes the places whose rules are needed for an act, in the same order.
 fn put_needed(
     needed: &mut Vec<usize>,
@@ -249,7 +266,7 @@ fn needed(
     Ok(needed)
 }
 
-/// The places of rules that are likely to hide the one at `at`; none where none are found.
+/// The places of rules that are likely to hide the one at `at` together; none where none are found.
 fn hiders(
     alloc: Global,
     source: &Source,
@@ -259,13 +276,59 @@ fn hiders(
     requires { at < length source.now.policy.rules }
 {
     let places = candidates(alloc, source, order, at)?;
-    if let Some(place) = alone(source.rules(), places.as_slice(), at) {
-        return Ok(vec![in alloc; place]?);
-    }
     if !acts_are_held(source.rules(), places.as_slice(), at) {
         return Ok(Vec::new(alloc));
     }
     needed(alloc, source.rules(), places.as_slice(), at)
+}
+
+/// What is found of the rule at `at` where several rules hide it together.
+fn hidden_together(
+    alloc: Global,
+    source: &Source,
+    order: &[(i32, usize)],
+    at: usize,
+) -> Result<Option<Hidden>, AllocError>
+    requires { at < length source.now.policy.rules }
+    ensures sound { IfOk result (λ found. IfSome found (λ hidden. IsHiddenBy source.now.policy.rules hidden.at hidden.by.items)) }
+    ensures here { IfOk result (λ found. IfSome found (λ hidden. hidden.at ≡ at)) }
+{
+    let by = hiders(alloc, source, order, at)?;
+    if !hide(source, by.as_slice(), at) {
+        return Ok(None);
+    }
+    Ok(Some(Hidden { at, by }))
+}
+
+/// The rule at `at`, hidden by the one at `place` alone.
+fn hidden_by(alloc: Global, place: usize, at: usize) -> Result<Hidden, AllocError>
+    ensures sound { (rules : List Rule) → IsHider rules place at → IfOk result (λ hidden. IsHiddenBy rules hidden.at hidden.by.items) }
+    ensures here { IfOk result (λ hidden. hidden.at ≡ at) }
+{
+    let mut by = Vec::new(alloc);
+    by.push(place)?;
+    Ok(Hidden { at, by })
+}
+
+/// What is found of the rule at `at`: it is found to be hidden at least where one rule hides it by itself.
+fn hidden_at(
+    alloc: Global,
+    source: &Source,
+    order: &[(i32, usize)],
+    at: usize,
+) -> Result<Option<Hidden>, AllocError>
+    requires { at < length source.now.policy.rules }
+    ensures sound { IfOk result (λ found. IfSome found (λ hidden. IsHiddenBy source.now.policy.rules hidden.at hidden.by.items)) }
+    ensures here { IfOk result (λ found. IfSome found (λ hidden. hidden.at ≡ at)) }
+    ensures found { (place : ℕ) → IsHider source.now.policy.rules place at → IfOk result IsSome }
+{
+    match first_hider(source, at) {
+        Some(place) => {
+            let hidden = hidden_by(alloc, place, at)?;
+            Ok(Some(hidden))
+        }
+        None => hidden_together(alloc, source, order, at),
+    }
 }
 
 /// Takes the rule at `at`, where it is found to be hidden.
@@ -277,19 +340,20 @@ fn put_hidden(
     found: &mut Vec<Hidden>,
 ) -> Result<(), AllocError>
     requires { at < length source.now.policy.rules }
-    ensures { All (λ hidden. IsHiddenBy source.now.policy.rules hidden.at hidden.by.items) found.old.items → OnOk result (All (λ hidden. IsHiddenBy source.now.policy.rules hidden.at hidden.by.items) found.new.items) }
+    ensures sound { All (λ hidden. IsHiddenBy source.now.policy.rules hidden.at hidden.by.items) found.old.items → OnOk result (All (λ hidden. IsHiddenBy source.now.policy.rules hidden.at hidden.by.items) found.new.items) }
+    ensures found { AreFound source.now.policy.rules found.old.items at → OnOk result (AreFound source.now.policy.rules found.new.items (at + 1)) }
 {
-    let by = hiders(alloc, source, order, at)?;
-    if !hide(source, by.as_slice(), at) {
+    let Some(hidden) = hidden_at(alloc, source, order, at)? else {
         return Ok(());
-    }
-    found.push(Hidden { at, by })?;
+    };
+    found.push(hidden)?;
     Ok(())
 }
 
-/// The rules that never decide, as far as they are found, in their order.
+/// The rules that never decide, as far as they are found, in their order: at least those that one rule hides by itself.
 pub fn hidden_in(alloc: Global, source: &Source) -> Result<Vec<Hidden>, AllocError>
-    ensures { IfOk result (λ found. All (λ hidden. IsHiddenBy source.now.policy.rules hidden.at hidden.by.items) found.items) }
+    ensures sound { IfOk result (λ found. All (λ hidden. IsHiddenBy source.now.policy.rules hidden.at hidden.by.items) found.items) }
+    ensures found { IfOk result (λ found. (at : ℕ) (place : ℕ) → IsHider source.now.policy.rules place at → Contains (map (λ hidden. hidden.at) found.items) at) }
 {
     let order = by_low(alloc, source.rules())?;
     let mut found = Vec::new(alloc);

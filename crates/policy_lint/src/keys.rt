@@ -1,9 +1,9 @@
 use crate::examples::end_of;
-use crate::nearest::nearest;
 use crate::warning::Doubt;
 use byte_strings::Text;
 use channel_uri::{Channel, Key, Keys, Media, UriError};
 use policy_core::Rule;
+use policy_faults::nearest;
 use policy_tools::value_wider;
 use std::alloc::{AllocError, Global};
 

@@ -1,5 +1,5 @@
 ghost use Rattle.policy_core.specs.Moments.{stands_at};
-ghost use Rattle.policy_lint.specs.Lasting.{begins_first, ends_last};
+ghost use Rattle.policy_lint.specs.Lasting.{begins_first, ends_last, outlasts};
 ghost use Rattle.std.specs.Prelude.{◌≡◌, ℕ, true};
 
 use policy_core::Rule;
@@ -33,7 +33,8 @@ fn ends_last(wide: Option<u64>, narrow: Option<u64>) -> bool
 /// Whether the wide rule is found to stand at each moment at which the narrow one does.
 #[tactic(auto, using(crate::proofs::LastingLemmas::lasts))]
 pub(crate) fn outlasts(wide: &Rule, narrow: &Rule) -> bool
-    ensures { result ≡ true → (moment : ℕ) → stands_at narrow.now moment ≡ true → stands_at wide.now moment ≡ true }
+    ensures exact { result ≡ outlasts wide.now narrow.now }
+    ensures stands { result ≡ true → (moment : ℕ) → stands_at narrow.now moment ≡ true → stands_at wide.now moment ≡ true }
 {
     begins_first(wide.from, narrow.from) && ends_last(wide.until, narrow.until)
 }

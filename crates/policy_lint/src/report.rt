@@ -5,31 +5,21 @@ ghost use Rattle.policy_lint.specs.declared.ending.Ends.TheVariants.{Past};
 ghost use Rattle.policy_query.specs.Deciding.{policy_in};
 ghost use Rattle.policy_text.specs.declared.fault.PolicyFault.{PolicyFault};
 ghost use Rattle.std.specs.List.{All};
-ghost use Rattle.std.specs.Prelude.{◌≡◌, ◌<◌, Err, IfOk, Ok, length};
+ghost use Rattle.policy_faults.specs.Fault.{IsFirst};
+ghost use Rattle.std.specs.Prelude.{◌≡◌, Err, IfOk, Ok, length};
 
 use crate::ending::{Ended, Ends, ended_in};
-use crate::fault::Fault;
-use crate::faults::faults_of;
 use crate::hiding::{Hidden, hidden_in};
-use crate::places::{Place, Places, places_in};
+use crate::notes::{Findings, Named, Note, notes_of, rules_of};
 use crate::unmet::{Unmet, unmet_in};
-use crate::warning::{Doubt, Warning};
+use crate::warning::Warning;
 use crate::warnings::warnings_of;
 use byte_strings::Text;
-use moment_words::date_text;
-use policy_text::{Names, PolicyFault};
-use policy_tools::Source;
+use policy_faults::{Fault, faults_of, places_in};
+use policy_text::PolicyFault;
+use policy_tools::{Directory, Source};
 use std::alloc::{AllocError, Global};
 use std::str;
-
-/// What a rule is called, and where it stands.
-#[derive(Drop)]
-struct Named {
-    name: Text,
-    place: Place,
-    /// Where its end stands.
-    until: Place,
-}
 
 /// What is found in a policy's text.
 #[derive(Drop)]
@@ -49,21 +39,6 @@ pub struct Report {
     rules: Vec<Named>,
     /// The moment at which the policy was looked at, in nanoseconds since 1970.
     moment: u64,
-}
-
-/// What the rules are called, and where they stand.
-fn rules_of(alloc: Global, source: &Source, places: &Places) -> Result<Vec<Named>, AllocError> {
-    let mut rules = Vec::new(alloc);
-    let mut number: usize = 0;
-    for rule in source.rules() {
-        number = number.saturating_add(1);
-        rules.push(Named {
-            name: Text::new(alloc, rule.name.as_str())?,
-            place: places.of(number, ""),
-            until: places.of(number, "until"),
-        })?;
-    }
-    Ok(rules)
 }
 
 /// The rules that end within a period from a moment, if one is given.
@@ -106,10 +81,11 @@ fn warned(
     let places = places_in(alloc, text)?;
     let rules = rules_of(alloc, source, &places)?;
     let unmet = unmet_in(alloc, source, &places, &table, moment)?;
-    let warnings = warnings_of(alloc, source, places, &table, moment)?;
+    let hidden = hidden_in(alloc, source)?;
+    let warnings = warnings_of(alloc, source, hidden.as_slice(), places, &table, moment)?;
     Ok(Report {
         faults: Vec::new(alloc),
-        hidden: hidden_in(alloc, source)?,
+        hidden,
         unmet,
         over: over_in(alloc, source, moment)?,
         ending: ending_in(alloc, source, moment, soon)?,
@@ -123,13 +99,13 @@ fn warned(
 fn refused(
     alloc: Global,
     bytes: &[u8],
-    names: &Names,
+    directory: &Directory,
     fault: PolicyFault,
 ) -> Result<Report, AllocError>
-    ensures { IfOk result (λ report. 0 < length report.faults.items) }
+    ensures { IfOk result (λ report. IsFirst fault report.faults.items) }
 {
     Ok(Report {
-        faults: faults_of(alloc, bytes, names, fault)?,
+        faults: faults_of(alloc, bytes, directory, fault)?,
         hidden: Vec::new(alloc),
         unmet: Vec::new(alloc),
         over: Vec::new(alloc),
@@ -142,24 +118,25 @@ fn refused(
 
 /// Looks at the bytes of a policy's file: for its faults, where it is no policy, and else for what is likely not meant, at a
 /// moment in nanoseconds since 1970: for rules that are over then and, if `soon` is given, for those that end within so many
-/// nanoseconds from it. There is a fault exactly where [`policy_query::policy_in`] refuses the bytes.
+/// nanoseconds from it. There is a fault exactly where [`policy_query::policy_in`] refuses the bytes, and the first one is that
+/// for which it does.
 pub fn lint(
     alloc: Global,
     bytes: &[u8],
-    names: &Names,
+    directory: &Directory,
     moment: u64,
     soon: Option<u64>,
 ) -> Result<Report, AllocError>
-    ensures accepted { (policy : Rules) → policy_in names.now bytes.now ≡ Ok policy → IfOk result (λ report. IsOf policy moment soon report) }
-    ensures refused { (fault : PolicyFault) → policy_in names.now bytes.now ≡ Err fault → IfOk result (λ report. 0 < length report.faults.items) }
+    ensures accepted { (policy : Rules) → policy_in directory.now bytes.now ≡ Ok policy → IfOk result (λ report. IsOf policy moment soon report) }
+    ensures refused { (fault : PolicyFault) → policy_in directory.now bytes.now ≡ Err fault → IfOk result (λ report. IsFirst fault report.faults.items) }
 {
-    match Source::read(alloc, bytes, names) {
+    match Source::read(alloc, bytes, directory.names()) {
         Ok(source) => match str::from_utf8(bytes) {
             Ok(text) => warned(alloc, &source, text, moment, soon),
             Err(_) => Err(AllocError),
         },
         Err(PolicyFault::NoMemory) => Err(AllocError),
-        Err(fault) => refused(alloc, bytes, names, fault),
+        Err(fault) => refused(alloc, bytes, directory, fault),
     }
 }
 
@@ -170,6 +147,28 @@ fn counted(alloc: Global, count: usize, one: &str) -> Result<Text, AllocError> {
         1 => Ok(Text::from(format!(in alloc; "1 {one}")?)),
         _ => Ok(Text::from(format!(in alloc; "{count} {one}s")?)),
     }
+}
+
+/// Appends a line for each fault.
+fn push_faults(text: &mut String, file: &str, faults: &[Fault]) -> Result<(), AllocError> {
+    for fault in faults {
+        let place = fault.place;
+        writeln!(text, "{file}:{place}: error: {fault}")?;
+    }
+    Ok(())
+}
+
+/// Appends a line for each note.
+fn push_notes(text: &mut String, file: &str, notes: &[Note]) -> Result<(), AllocError> {
+    for note in notes {
+        let (place, rule, words) = (note.place, note.rule, &note.text);
+        write!(text, "{file}:{place}: warning: ")?;
+        if let Some(name) = &note.name {
+            write!(text, "rule {rule} ({name}): ")?;
+        }
+        writeln!(text, "{words}")?;
+    }
+    Ok(())
 }
 
 impl Report {
@@ -204,193 +203,31 @@ impl Report {
                     && self.warnings.is_empty())
     }
 
-    /// Appends a rule's number and name.
-    fn push_rule(&self, alloc: Global, text: &mut String, at: usize) -> Result<(), AllocError> {
-        let number = at.saturating_add(1);
-        text.push_str(format!(in alloc; "rule {number}")?.as_str())?;
-        match self.rules.get(at) {
-            Some(rule) => {
-                let name = &rule.name;
-                text.push_str(format!(in alloc; " ({name})")?.as_str())
-            }
-            None => Ok(()),
-        }
-    }
-
-    /// Appends the head of a warning's line.
-    fn push_head(
-        &self,
-        alloc: Global,
-        text: &mut String,
-        file: &str,
-        of: (usize, Place),
-    ) -> Result<(), AllocError> {
-        let (at, place) = of;
-        text.push_str(format!(in alloc; "{file}:{place}: warning: ")?.as_str())?;
-        if at >= self.rules.len() {
-            return Ok(());
-        }
-        self.push_rule(alloc, text, at)?;
-        text.push_str(": ")
-    }
-
-    /// Appends the rules that hide another one.
-    fn push_hiders(
-        &self,
-        alloc: Global,
-        text: &mut String,
-        by: &[usize],
-    ) -> Result<(), AllocError> {
-        if by.len() == 1
-            && let Some(place) = by.first()
-        {
-            self.push_rule(alloc, text, *place)?;
-            return text.push_str(" takes each request that it matches");
-        }
-        let mut before = "rules ";
-        for at in 0..self.rules.len() {
-            if by.contains(&at) {
-                let number = at.saturating_add(1);
-                text.push_str(format!(in alloc; "{before}{number}")?.as_str())?;
-                before = ", ";
-            }
-        }
-        text.push_str(" together take each request that it matches")
-    }
-
-    /// Appends the warning that a rule never decides, where it is found so.
-    fn push_hidden(
-        &self,
-        alloc: Global,
-        text: &mut String,
-        file: &str,
-        at: usize,
-    ) -> Result<(), AllocError> {
-        let Some(rule) = self.rules.get(at) else {
-            return Ok(());
-        };
-        for hidden in &self.hidden {
-            if hidden.at == at {
-                self.push_head(alloc, text, file, (at, rule.place))?;
-                text.push_str("never decides: ")?;
-                self.push_hiders(alloc, text, hidden.by.as_slice())?;
-                text.push_str("\n")?;
-            }
-        }
-        Ok(())
-    }
-
-    /// Appends when it is so, where that is after the moment at which the policy was looked at.
-    fn push_when(&self, alloc: Global, text: &mut String, moment: u64) -> Result<(), AllocError> {
-        if moment <= self.moment {
-            return Ok(());
-        }
-        let date = date_text(alloc, moment)?;
-        text.push_str(format!(in alloc; "at {date} ")?.as_str())
-    }
-
-    /// Appends the warning that a rule has an end.
-    fn push_ended(
-        &self,
-        alloc: Global,
-        text: &mut String,
-        file: &str,
-        at: usize,
-        of: (&[Ended], &str),
-    ) -> Result<(), AllocError> {
-        let (found, what) = of;
-        let Some(rule) = self.rules.get(at) else {
-            return Ok(());
-        };
-        for ended in found {
-            if ended.at == at {
-                self.push_head(alloc, text, file, (at, rule.until))?;
-                let date = date_text(alloc, ended.until)?;
-                text.push_str(format!(in alloc; "{what} {date}\n")?.as_str())?;
-            }
-        }
-        Ok(())
-    }
-
-    /// Appends the warning that nobody may be the other end of what a rule grants.
-    fn push_unmet(
-        &self,
-        alloc: Global,
-        text: &mut String,
-        file: &str,
-        at: usize,
-    ) -> Result<(), AllocError> {
-        for unmet in &self.unmet {
-            if unmet.at == at {
-                self.push_head(alloc, text, file, (at, unmet.place))?;
-                let channel = unmet.channel.canonical(alloc)?;
-                let stream = unmet.stream;
-                self.push_when(alloc, text, unmet.moment)?;
-                text.push_str(format!(in alloc;
-                    "{unmet}: on {channel}, stream {stream}\n"
-                )?.as_str())?;
-            }
-        }
-        Ok(())
-    }
-
-    /// Appends the other warnings about a rule.
-    fn push_warnings(
-        &self,
-        alloc: Global,
-        text: &mut String,
-        file: &str,
-        at: usize,
-    ) -> Result<(), AllocError> {
-        for warning in &self.warnings {
-            if warning.at == at {
-                self.push_head(alloc, text, file, (at, warning.place))?;
-                let doubt = &warning.doubt;
-                if let Doubt::Gap(gap) = doubt {
-                    self.push_when(alloc, text, gap.moment)?;
-                }
-                text.push_str(format!(in alloc; "{doubt}\n")?.as_str())?;
-            }
-        }
-        Ok(())
-    }
-
-    /// Appends the faults.
-    fn push_faults(&self, alloc: Global, text: &mut String, file: &str) -> Result<(), AllocError> {
-        for fault in &self.faults {
-            let place = fault.place;
-            text.push_str(format!(in alloc; "{file}:{place}: error: {fault}\n")?.as_str())?;
-        }
-        Ok(())
+    /// The warnings in words, rule by rule.
+    pub fn notes(&self, alloc: Global) -> Result<Vec<Note>, AllocError> {
+        notes_of(
+            alloc,
+            Findings {
+                rules: self.rules.as_slice(),
+                hidden: self.hidden.as_slice(),
+                unmet: self.unmet.as_slice(),
+                over: self.over.as_slice(),
+                ending: self.ending.as_slice(),
+                warnings: self.warnings.as_slice(),
+                moment: self.moment,
+            },
+        )
     }
 
     /// The report in words: a line for each fault and each warning, and one that counts them.
     pub fn text(&self, alloc: Global, file: &str) -> Result<Text, AllocError> {
+        let notes = self.notes(alloc)?;
         let mut text = String::new(alloc);
-        self.push_faults(alloc, &mut text, file)?;
-        for at in 0..self.rules.len() {
-            self.push_hidden(alloc, &mut text, file, at)?;
-            self.push_ended(
-                alloc,
-                &mut text,
-                file,
-                at,
-                (self.over.as_slice(), "is over since"),
-            )?;
-            self.push_ended(
-                alloc,
-                &mut text,
-                file,
-                at,
-                (self.ending.as_slice(), "ends at"),
-            )?;
-            self.push_unmet(alloc, &mut text, file, at)?;
-            self.push_warnings(alloc, &mut text, file, at)?;
-        }
-        self.push_warnings(alloc, &mut text, file, self.rules.len())?;
+        push_faults(&mut text, file, self.faults.as_slice())?;
+        push_notes(&mut text, file, notes.as_slice())?;
         let faults = counted(alloc, self.faults_len(), "fault")?;
-        let warnings = counted(alloc, self.warnings_len(), "warning")?;
-        text.push_str(format!(in alloc; "{faults}, {warnings}\n")?.as_str())?;
+        let warnings = counted(alloc, notes.len(), "warning")?;
+        writeln!(text, "{faults}, {warnings}")?;
         Ok(Text::from(text))
     }
 }

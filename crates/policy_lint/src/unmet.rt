@@ -1,26 +1,35 @@
-ghost use Rattle.channel_uri.specs.Keys.{value_at};
-ghost use Rattle.channel_uri.specs.Place.{is_text};
 ghost use Rattle.policy_core.specs.Moments.{at as policy_at};
 ghost use Rattle.policy_core.specs.RuleList.{Rules};
-ghost use Rattle.policy_lint.specs.Nobody.{IsAlone, IsUnmet, may};
+ghost use Rattle.policy_lint.specs.Nobody.{IsAlone, IsThere, IsUnmet, Lacks, may};
 ghost use Rattle.std.specs.List.{All};
-ghost use Rattle.std.specs.Prelude.{◌≡◌, ◌<◌, IfOk, IfSome, OnOk, codes, length, true};
+ghost use Rattle.std.specs.Prelude.{◌≡◌, ◌<◌, IfOk, IfSome, OnOk, length, true};
 
 use crate::asking::{Asked, asker, moment_for, nobody_may, stream_in};
-use crate::examples::{example, learning_example, spoken_at};
-use crate::places::{Place, Places};
+use crate::examples::{Spoken, common_example, example, learning_example, spoken_at};
 use crate::warnings::principal_at;
 use byte_strings::Text;
 use channel_uri::{Channel, Media};
-use policy_core::{Act, Policy, Rule};
+use policy_core::{Act, Acts, Policy, Rule};
+use policy_faults::{Place, Places};
 use policy_tools::Source;
 use std::alloc::{AllocError, Global};
 use std::fmt;
 use toml::Table;
 
-/// A rule that grants one end of a publication that learns its destinations, where the policy denies everybody the other end.
+/// What nobody may do that is needed.
+#[derive(Clone, Copy, Debug, PartialEq, Eq)]
+pub enum Lack {
+    /// Be the other end of a publication that learns its destinations.
+    Other,
+    /// Ask a publication over udp for what was lost on its way.
+    Resend,
+}
+
+/// A rule that grants an end of a publication, where the policy denies everybody what that end needs.
 #[derive(Drop)]
 pub struct Unmet {
+    /// What nobody may do.
+    pub lack: Lack,
     /// The place of the rule in its policy, counted from 0.
     pub at: usize,
     /// Where its acts stand in the text.
@@ -53,20 +62,48 @@ fn is_alone(policy: &Policy, moment: u64, act: Act, channel: &Channel, stream: i
     }
 }
 
-/// Whether the rule grants an act of the other end.
-fn grants_other(rule: &Rule, act: Act) -> bool {
-    let has_other = match act {
-        Act::Join => rule.acts.hold(Act::Publish) || rule.acts.hold(Act::PublishExclusive),
-        _ => rule.acts.hold(Act::Join),
-    };
-    rule.allow && has_other
+/// Whether nobody may do there at that moment what is looked for.
+fn is_lacking(
+    policy: &Policy,
+    moment: u64,
+    lack: Lack,
+    act: Act,
+    channel: &Channel,
+    stream: i32,
+) -> bool
+    ensures { result ≡ true → Lacks lack (policy_at policy.now moment) act channel.now stream }
+{
+    match lack {
+        Lack::Other => is_alone(policy, moment, act, channel, stream),
+        Lack::Resend => nobody_may(policy, moment, Act::Retransmit, channel, stream),
+    }
 }
 
-/// Whether the policy allows an act of the other end.
-fn may_other(asked: Asked<'_>, act: Act) -> bool {
-    match act {
-        Act::Join => asked.may(Act::Publish) || asked.may(Act::PublishExclusive),
-        _ => asked.may(Act::Join),
+/// Whether the acts have one of those that the act needs.
+fn has_needed(acts: Acts, lack: Lack, act: Act) -> bool {
+    match (lack, act) {
+        (Lack::Resend, _) => acts.hold(Act::Retransmit),
+        (Lack::Other, Act::Join) => acts.hold(Act::Publish) || acts.hold(Act::PublishExclusive),
+        (Lack::Other, _) => acts.hold(Act::Join),
+    }
+}
+
+/// Whether the policy allows one of those acts.
+fn may_needed(asked: Asked<'_>, lack: Lack, act: Act) -> bool {
+    match (lack, act) {
+        (Lack::Resend, _) => asked.may(Act::Retransmit),
+        (Lack::Other, Act::Join) => asked.may(Act::Publish) || asked.may(Act::PublishExclusive),
+        (Lack::Other, _) => asked.may(Act::Join),
+    }
+}
+
+/// Whether the channel is one on which that is looked for.
+fn is_there(lack: Lack, channel: &Channel) -> bool
+    ensures { result ≡ true → IsThere lack channel.now }
+{
+    match lack {
+        Lack::Other => channel.is_dynamic(),
+        Lack::Resend => channel.media() == Media::Udp,
     }
 }
 
@@ -76,6 +113,8 @@ struct End<'a> {
     source: &'a Source,
     /// The place of the rule, counted from 0.
     at: usize,
+    /// What is looked for.
+    lack: Lack,
     act: Act,
     /// Who asks.
     principal: u32,
@@ -93,11 +132,12 @@ fn stream_of_both(one: &Rule, other: &Rule) -> Option<i32> {
 }
 
 impl End<'_> {
-    /// A channel of the rule on which a publication learns its destinations. A rule on publications has to speak of no other
-    /// ones: what else it grants needs nobody to join.
+    /// A channel of the rule on which that is looked for: one over udp. For the other end it is one on which a publication
+    /// learns its destinations, and a rule on publications has to speak of no other ones: what else it grants needs nobody to
+    /// join.
     fn channel(&self, alloc: Global) -> Result<Option<Channel>, AllocError>
         requires { self.now.at < length self.now.source.now.policy.rules }
-        ensures { IfOk result (λ found. IfSome found (λ channel. is_text (codes "dynamic") (value_at (codes "control-mode") channel.keys) ≡ true)) }
+        ensures { IfOk result (λ found. IfSome found (λ channel. IsThere self.now.lack channel)) }
     {
         let own = spoken_at(self.source, self.at);
         let found = match self.act {
@@ -105,8 +145,20 @@ impl End<'_> {
             _ => example(alloc, own, Media::Udp)?,
         };
         match found {
-            Some(channel) if channel.is_dynamic() => Ok(Some(channel)),
+            Some(channel) if is_there(self.lack, &channel) => Ok(Some(channel)),
             _ => Ok(None),
+        }
+    }
+
+    /// A channel of this pattern and that one on which that is looked for.
+    fn common(
+        &self,
+        alloc: Global,
+        patterns: &[Spoken<'_>],
+    ) -> Result<Option<Channel>, AllocError> {
+        match self.lack {
+            Lack::Other => learning_example(alloc, patterns),
+            Lack::Resend => common_example(alloc, patterns, Media::Udp),
         }
     }
 
@@ -132,7 +184,7 @@ impl End<'_> {
     {
         let rules = self.source.rules();
         let (own, other) = (&rules[self.at], &rules[beside]);
-        if !grants_other(other, self.act) {
+        if !other.allow || !has_needed(other.acts, self.lack, self.act) {
             return Ok(false);
         }
         let (Some(stream), Some(principal)) = (stream_of_both(own, other), asker(rules, other))
@@ -143,7 +195,7 @@ impl End<'_> {
             spoken_at(self.source, self.at),
             spoken_at(self.source, beside),
         );
-        let Some(channel) = learning_example(alloc, &[here, there])? else {
+        let Some(channel) = self.common(alloc, &[here, there])? else {
             return Ok(false);
         };
         let policy = self.source.policy();
@@ -162,7 +214,7 @@ impl End<'_> {
             channel: &channel,
             stream,
         };
-        Ok(asked.may(self.act) && may_other(across, self.act))
+        Ok(asked.may(self.act) && may_needed(across, self.lack, self.act))
     }
 
     /// Whether both ends come together by the rule and some other one.
@@ -191,9 +243,10 @@ impl End<'_> {
         if !self.is_granted(&channel, stream) {
             return Ok(None);
         }
-        if !is_alone(
+        if !is_lacking(
             self.source.policy(),
             self.moment,
+            self.lack,
             self.act,
             &channel,
             stream,
@@ -204,6 +257,7 @@ impl End<'_> {
             return Ok(None);
         }
         Ok(Some(Unmet {
+            lack: self.lack,
             at: self.at,
             place,
             name: Text::new(alloc, name)?,
@@ -221,6 +275,7 @@ impl End<'_> {
 fn unmet_at(
     alloc: Global,
     source: &Source,
+    lack: Lack,
     at: usize,
     name: &str,
     place: Place,
@@ -234,10 +289,11 @@ fn unmet_at(
         return Ok(None);
     };
     for act in [Act::Publish, Act::PublishExclusive, Act::Join] {
-        if rule.allow && rule.acts.hold(act) {
+        if rule.allow && rule.acts.hold(act) && (lack == Lack::Other || act != Act::Join) {
             let end = End {
                 source,
                 at,
+                lack,
                 act,
                 principal,
                 moment: moment_for(rule, moment),
@@ -255,6 +311,7 @@ fn unmet_at(
 fn put_unmet(
     alloc: Global,
     source: &Source,
+    lack: Lack,
     at: usize,
     name: &str,
     place: Place,
@@ -264,7 +321,7 @@ fn put_unmet(
     requires { at < length source.now.policy.rules }
     ensures { All (IsUnmet source.now.policy) found.old.items → OnOk result (All (IsUnmet source.now.policy) found.new.items) }
 {
-    let Some(unmet) = unmet_at(alloc, source, at, name, place, moment)? else {
+    let Some(unmet) = unmet_at(alloc, source, lack, at, name, place, moment)? else {
         return Ok(());
     };
     found.push(unmet)?;
@@ -285,7 +342,26 @@ pub(crate) fn unmet_in(
     for at in 0..source.rules().len() {
         let name = principal_at(table, at).unwrap_or("*");
         let place = places.of(at.saturating_add(1), "act");
-        put_unmet(alloc, source, at, name, place, moment, &mut found)?;
+        put_unmet(
+            alloc,
+            source,
+            Lack::Other,
+            at,
+            name,
+            place,
+            moment,
+            &mut found,
+        )?;
+        put_unmet(
+            alloc,
+            source,
+            Lack::Resend,
+            at,
+            name,
+            place,
+            moment,
+            &mut found,
+        )?;
     }
     Ok(found)
 }
@@ -298,9 +374,10 @@ impl fmt::Display for Unmet {
         }
         let act = self.act.name();
         write!(f, " may `{act}` but nobody may ")?;
-        match self.act {
-            Act::Join => f.write_str("`publish` or `publish-exclusive`"),
-            _ => f.write_str("`join`"),
+        match (self.lack, self.act) {
+            (Lack::Resend, _) => f.write_str("`retransmit`, so what is lost stays lost"),
+            (Lack::Other, Act::Join) => f.write_str("`publish` or `publish-exclusive`"),
+            (Lack::Other, _) => f.write_str("`join`"),
         }
     }
 }

@@ -1,7 +1,7 @@
-use crate::places::Place;
 use byte_strings::Text;
 use channel_uri::{Key, UriError};
 use policy_core::{Act, Verdict};
+use policy_faults::Place;
 use std::fmt;
 
 /// A request that a policy grants, and one that has to be granted with it and is not.
@@ -41,6 +41,8 @@ pub enum Doubt {
     Evaded(Text),
     /// What is granted does not serve alone.
     Gap(Gap),
+    /// Without the rule each request has the same word: whether that is to allow it.
+    ChangesNothing(bool),
     /// The rule at this place, counted from 0, has the same name.
     SameName(usize),
     /// The rule allows everybody everything.
@@ -122,10 +124,16 @@ impl fmt::Display for Doubt {
             ),
             Doubt::Evaded(key) => write!(
                 f,
-                "denying by the key `{key}` is evaded: a channel may leave it out or write its value otherwise; deny by \
-                 acts, streams or endpoint"
+                "a client can bypass a denial by the key `{key}`: it may leave the key out or write its value otherwise; \
+                 deny by acts, streams or endpoint"
             ),
             Doubt::Gap(gap) => write!(f, "{gap}"),
+            Doubt::ChangesNothing(true) => f.write_str(
+                "changes nothing: the default allows these requests, and no later rule denies one",
+            ),
+            Doubt::ChangesNothing(false) => f.write_str(
+                "changes nothing: the default denies these requests, and no later rule allows one",
+            ),
             Doubt::SameName(at) => {
                 let number = at.saturating_add(1);
                 write!(f, "rule {number} has the same name")

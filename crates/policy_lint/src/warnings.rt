@@ -2,13 +2,14 @@ ghost use Rattle.std.specs.Prelude.{◌<◌, length};
 
 use crate::acts::{Shape, has_every_act, has_no_request, shape_of, system_type, why_never};
 use crate::gaps::gaps_of;
+use crate::hiding::Hidden;
 use crate::keys::{Wanted, is_by_control};
 use crate::pairs::pairs_in;
-use crate::places::Places;
 use crate::warning::{Doubt, Warning};
 use channel_uri::{Keys, Media, Pattern};
 use policy_core::{Act, Principals, Rule};
-use policy_tools::Source;
+use policy_faults::Places;
+use policy_tools::{Source, may_meet};
 use std::alloc::{AllocError, Global};
 use toml::Table;
 
@@ -141,6 +142,17 @@ impl Warned {
         Ok(())
     }
 
+    /// Looks whether the rule changes nothing.
+    fn effect(&mut self, source: &Source, looked: Looked<'_>) -> Result<(), AllocError>
+        requires { looked.at < length source.now.policy.rules }
+    {
+        if changes_nothing(source, looked.at) {
+            let doubt = Doubt::ChangesNothing(looked.rule.allow);
+            self.take(looked.at, "allow", doubt)?;
+        }
+        Ok(())
+    }
+
     /// Looks for an earlier rule of the same name, and whether the rule allows everybody everything.
     fn whole(&mut self, source: &Source, looked: Looked<'_>) -> Result<(), AllocError>
         requires { looked.at < length source.now.policy.rules }
@@ -178,11 +190,29 @@ pub(crate) fn principal_at(table: &Table, at: usize) -> Option<&str> {
     rules.get(at)?.as_table()?.get("principal")?.as_str()
 }
 
+/// Whether the policy decides all requests with the same words without the rule at a place: the default has its word, and so has
+/// each later rule that may match a request of it.
+fn changes_nothing(source: &Source, at: usize) -> bool
+    requires { at < length source.now.policy.rules }
+{
+    let rule = &source.rules()[at];
+    if rule.allow != source.policy().default_allows() {
+        return false;
+    }
+    for later in &source.rules()[at + 1..] {
+        if later.allow != rule.allow && may_meet(source.text(at), rule, later) {
+            return false;
+        }
+    }
+    true
+}
+
 /// The warnings about the rules of a policy at a moment, which the table is the document of, but for those about hidden rules,
 /// and about rules that end.
 pub(crate) fn warnings_of(
     alloc: Global,
     source: &Source,
+    hidden: &[Hidden],
     places: Places,
     table: &Table,
     moment: u64,
@@ -203,6 +233,9 @@ pub(crate) fn warnings_of(
         };
         let principal = principal_at(table, at).unwrap_or("*");
         warned.whole(source, looked)?;
+        if !hidden.iter().any(|rule| rule.at == at) {
+            warned.effect(source, looked)?;
+        }
         warned.rule(alloc, source, looked, principal)?;
     }
     if source.rules().is_empty() && source.policy().default_allows() {

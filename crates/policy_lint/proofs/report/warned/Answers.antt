@@ -5,9 +5,10 @@ use Rattle.policy_lint.proofs.report.warned.Goals as goal
 pub returns : goal.returns
 returns c = record {
   sound = search rules;
-  hidden = c.in_ok-hidden_in.ensures;
+  hidden = c.in_ok-hidden.ensures.sound;
+  found = c.in_ok-hidden.ensures.found;
   unmet = c.in_ok-unmet.ensures;
-  never = never_each _ _ c.in_ok-hidden_in.ensures;
+  never = never_each _ _ c.in_ok-hidden.ensures.sound;
   over = c.in_ok-over_in.ensures.exact;
   gone = c.in_ok-over_in.ensures.gone;
   ending = c.in_ok-ending_in.ensures.exact;
