@@ -1,5 +1,5 @@
 -- What is answered to each question about the policy in a file, from the file's bytes.
-use Rattle.std.specs.Prelude.{◌≡◌, ◌==◌, ◌++◌, ◌∷◌, [], ℕ, ℤ, Bool, true, List, Result, Ok, Err, length}
+use Rattle.std.specs.Prelude.{◌++◌, ◌∷◌, [], ℕ, ℤ, Bool, true, List, Result, Ok, Err}
 use Rattle.std.specs.List.{list_all}
 use Rattle.policy_core.specs.Act.{act_named}
 use Rattle.policy_core.specs.Question.{Question}
@@ -7,12 +7,15 @@ use Rattle.policy_core.specs.Moments.{at}
 use Rattle.policy_core.specs.RuleList.{Rules}
 use Rattle.policy_core.specs.Verdict.{verdict_text}
 use Rattle.policy_core.specs.declared.verdict.Verdict.{Verdict}
-use Rattle.policy_diff.specs.Diff.{AreApart, all_rows}
-use Rattle.policy_query.specs.Deciding.{checked_text, decided, policy_in, rules_in}
+use Rattle.policy_diff.specs.Diff.{AreApart}
+use Rattle.policy_diff.specs.Scope.{IsStream}
+use Rattle.policy_query.specs.Deciding.{checked_text, decided, rules_in}
 use Rattle.policy_query.specs.declared.deciding.DecideFault.{DecideFault}
 use Rattle.policy_query.specs.declared.deciding.DecideFault.TheVariants as query
 use Rattle.policy_text.specs.Names.{Known, number_of}
+use Rattle.policy_tools.specs.CaseLines.{cases_of}
 use Rattle.policy_tools.specs.Cases.{passes}
+use Rattle.policy_tools.specs.declared.case_lines.CasesFault.{CasesFault}
 use Rattle.policy_tools.specs.declared.cases.Case.{Case}
 use Rattle.policy_answers.specs.Asked.{channel_of, policy_of, sound}
 use Rattle.policy_answers.specs.Fault.{◌>>=◌, known}
@@ -22,7 +25,7 @@ use Rattle.policy_answers.specs.declared.fault.AskFault.TheVariants as faults
 
 -- a line that answers a question of which nothing was to hold
 abbrev pub line : List ℕ → Answer
-line text = record { text = text ++ 10 ∷ []; is_well = true }
+line text = record { text = text ++ 10 ∷ []; is_well = true; is_sure = true }
 
 -- ---- `check`
 
@@ -65,21 +68,26 @@ table_well names bytes principal =
 
 -- ---- `test`
 
--- of the policy that the file is, all is well exactly where each of some cases has the answer that it wants
-pub record IsTried (names : Known) (bytes : List ℕ) (moment : ℕ) (answer : Answer) : Type 0 where
-  pub policy : Rules
-  pub is_policy : policy_in names bytes ≡ Ok policy
-  pub cases : List Case
-  pub well : answer.is_well ≡ list_all (passes (at policy moment)) cases
+-- what is no file of cases is at fault
+abbrev pub some_cases : Result (List Case) CasesFault → Result (List Case) AskFault
+some_cases (Ok cases) = Ok cases
+some_cases (Err fault) = Err (faults.Cases fault)
+
+-- all is well exactly where each case of the file of cases has the answer that it wants of the policy
+abbrev pub try_well : Known → List ℕ → List ℕ → ℕ → Result Bool AskFault
+try_well names bytes cases moment =
+    policy_of names bytes >>= λ policy. some_cases (cases_of names cases) >>= λ wanted. Ok (list_all (passes (at policy moment)) wanted)
 
 -- ---- `diff`
 
--- both files are policies: all is well exactly where their difference has no row
-abbrev pub compare_well : Known → List ℕ → List ℕ → ℕ → Result Bool AskFault
-compare_well names old new moment =
-    policy_of names old >>= λ before. policy_of names new >>= λ after.
-    Ok (length (all_rows (at before moment) (at after moment)) == 0)
+-- both files are policies
+abbrev pub both_read : Known → List ℕ → List ℕ → Result Bool AskFault
+both_read names old new = policy_of names old >>= λ before. policy_of names new >>= λ after. Ok true
 
--- no request is allowed by the one policy and denied by the other
+-- no request is allowed by the one policy and denied by the other; streams are of 32 bits
 abbrev pub DecideAlike : Rules → Rules → Type 0
-DecideAlike old new = (question : Question) → AreApart old new question → ⊥
+DecideAlike old new = (question : Question) → IsStream question.stream → AreApart old new question → ⊥
+
+-- some request is
+abbrev pub DecideApart : Rules → Rules → Type 0
+DecideApart old new = (question : Question) × AreApart old new question

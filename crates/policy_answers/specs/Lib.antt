@@ -1,3 +1,5 @@
 pub mod Answers
 pub mod Asked
 pub mod Fault
+pub mod Json
+pub mod Tables

@@ -6,7 +6,48 @@ use policy_query::DecideFault;
 use policy_text::PolicyFault;
 use policy_tools::CasesFault;
 use std::alloc::{AllocError, AllocFailed};
+use std::fmt;
 use thiserror::Error;
+
+/// A count of rows; in digits, by threes.
+#[derive(Clone, Copy, Debug)]
+pub struct RowCount(pub u64);
+
+impl fmt::Display for RowCount {
+    fn fmt<W: fmt::Write>(&self, f: &mut fmt::Formatter<W>) -> fmt::Result {
+        let mut begun = false;
+        let mut left = self.0;
+        let (units, last) = (THOUSANDS, self.0 % 1000);
+        for unit in units {
+            let (digits, rest) = (
+                left.checked_div(unit).unwrap_or(0),
+                left.checked_rem(unit).unwrap_or(0),
+            );
+            left = rest;
+            if begun {
+                write!(f, "{digits:03},")?;
+            } else if digits > 0 {
+                begun = true;
+                write!(f, "{digits},")?;
+            }
+        }
+        if begun {
+            write!(f, "{last:03}")
+        } else {
+            write!(f, "{last}")
+        }
+    }
+}
+
+/// Each power of a thousand that 64 bits hold, but 1.
+const THOUSANDS: [u64; 6] = [
+    1_000_000_000_000_000_000,
+    1_000_000_000_000_000,
+    1_000_000_000_000,
+    1_000_000_000,
+    1_000_000,
+    1_000,
+];
 
 /// Why a question is not answered.
 #[derive(Clone, Copy, Debug, Error)]
@@ -26,6 +67,9 @@ pub enum AskFault {
     /// There is no principal of that name.
     #[error("unknown principal")]
     UnknownPrincipal,
+    /// The table has too many rows.
+    #[error("table: {0} rows; at most 1,000,000: name principals by --principal NAME")]
+    ManyRows(RowCount),
     /// There is no memory for the answer.
     #[error("no memory")]
     NoMemory,

@@ -3,14 +3,14 @@
 ghost use Rattle.policy_answers.specs.Answers.{check_answer, decide_answer, explain_well};
 ghost use Rattle.policy_answers.specs.Asked.{channel_of};
 ghost use Rattle.policy_answers.specs.Fault.{Gives};
-ghost use Rattle.std.specs.Prelude.{◌≡◌, IfOk, true};
+ghost use Rattle.std.specs.Prelude.{◌≡◌, true};
 
 use crate::answer::Answer;
 use crate::fault::AskFault;
 use channel_uri::Channel;
-use policy_core::{Act, Request};
+use policy_core::{Act, Request, Rule};
 use policy_query::DecideFault;
-use policy_tools::{Directory, Source, explained};
+use policy_tools::{Directory, Explanation, Reason, Source, explained, nearest, reasons_of};
 use std::alloc::{AllocError, Global};
 
 /// How many rules the policy has: `ok: 2 rules`.
@@ -62,23 +62,46 @@ fn channel_of(word: &str) -> Result<Channel, AskFault>
     }
 }
 
-/// What a policy that was read decides of a request, and why.
-fn explain_request(
+/// What was found of a question, with the policy that was asked.
+#[derive(Drop)]
+pub(crate) struct Explained {
+    pub(crate) source: Source,
+    pub(crate) found: Explanation,
+    pub(crate) reasons: Vec<Reason>,
+}
+
+/// So many of the first rules.
+fn before(rules: &[Rule], count: usize) -> &[Rule] {
+    rules.get(..count).unwrap_or(rules)
+}
+
+/// What a policy that was read decides of a request, and why: of the rules before the one that decides, or of so many of them
+/// that come nearest to a match.
+fn explained_by(
     alloc: Global,
-    source: &Source,
+    source: Source,
     request: &Request<'_>,
-) -> Result<Answer, AllocError>
-    ensures { IfOk result (λ answer. answer.is_well ≡ true) }
-{
+    near: Option<u64>,
+) -> Result<Explained, AllocError> {
     let found = policy_tools::explain(alloc, source.policy(), request)?;
-    Ok(Answer::of(explained(alloc, source, request.channel, &found)?))
+    let channel = request.channel;
+    let reasons = match near {
+        Some(most) => {
+            let rules = before(source.rules(), found.misses.len());
+            let places = nearest(alloc, rules, request, most as usize)?;
+            reasons_of(alloc, &source, channel, &found, Some(places.as_slice()))?
+        }
+        None => reasons_of(alloc, &source, channel, &found, None)?,
+    };
+    Ok(Explained {
+        source,
+        found,
+        reasons,
+    })
 }
 
 /// What the policy, as policy 1, decides of a question, and why.
-///
-/// # Errors
-/// The first fault of the policy and the question; a channel's with its cause.
-pub fn explain(
+pub(crate) fn explanation(
     alloc: Global,
     policy: &[u8],
     directory: &Directory,
@@ -87,8 +110,9 @@ pub fn explain(
     channel: &str,
     stream: i32,
     moment: u64,
-) -> Result<Answer, AskFault>
-    ensures { Gives (λ answer. answer.is_well) result (explain_well directory.now policy.now principal.now act.now channel.now) }
+    near: Option<u64>,
+) -> Result<Explained, AskFault>
+    ensures { Gives (λ explained. true) result (explain_well directory.now policy.now principal.now act.now channel.now) }
 {
     let mut source = Source::read(alloc, policy, directory.names())?;
     source.settle(moment);
@@ -103,5 +127,30 @@ pub fn explain(
         channel: &channel,
         stream,
     };
-    Ok(explain_request(alloc, &source, &request)?)
+    Ok(explained_by(alloc, source, &request, near)?)
+}
+
+/// What the policy, as policy 1, decides of a question, and why. Of the rules before the one that decides all are named or, where a
+/// number is given, so many at most, of those that come nearest to a match.
+///
+/// # Errors
+/// The first fault of the policy and the question; a channel's with its cause.
+pub fn explain(
+    alloc: Global,
+    policy: &[u8],
+    directory: &Directory,
+    principal: &str,
+    act: &str,
+    channel: &str,
+    stream: i32,
+    moment: u64,
+    near: Option<u64>,
+) -> Result<Answer, AskFault>
+    ensures { Gives (λ answer. answer.is_well) result (explain_well directory.now policy.now principal.now act.now channel.now) }
+{
+    let found = explanation(
+        alloc, policy, directory, principal, act, channel, stream, moment, near,
+    )?;
+    let text = explained(alloc, &found.source, &found.found, found.reasons.as_slice())?;
+    Ok(Answer::of(text))
 }

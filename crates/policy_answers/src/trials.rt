@@ -1,22 +1,22 @@
 //! What is wrong with a policy, whether it gives the answers that are wanted, and what another one would change.
 
-ghost use Rattle.policy_answers.specs.Answers.{DecideAlike, IsTried, compare_well};
+ghost use Rattle.policy_answers.specs.Answers.{DecideAlike, DecideApart, both_read, try_well};
 ghost use Rattle.policy_answers.specs.Fault.{Fails, Gives};
 ghost use Rattle.policy_answers.specs.declared.answer.Answer.{Answer};
 ghost use Rattle.policy_answers.specs.declared.fault.AskFault.TheVariants as faults;
 ghost use Rattle.policy_core.specs.Moments.{at};
 ghost use Rattle.policy_core.specs.RuleList.{Rules};
+ghost use Rattle.policy_diff.specs.Diff.{IsDiff};
 ghost use Rattle.policy_query.specs.Deciding.{policy_in};
-ghost use Rattle.policy_text.specs.declared.fault.PolicyFault.{PolicyFault};
 ghost use Rattle.policy_tools.specs.Cases.{passes};
 ghost use Rattle.std.specs.List.{list_all};
-ghost use Rattle.std.specs.Prelude.{◌≡◌, Err, IfErr, IfOk, Ok, false, is_ok, true};
+ghost use Rattle.std.specs.Prelude.{◌≡◌, IfErr, IfOk, Ok, false, is_ok, true};
 
 use crate::answer::Answer;
 use crate::fault::AskFault;
 use byte_strings::Text;
 use policy_core::Policy;
-use policy_diff::{diff_text, differences};
+use policy_diff::{Row, are_apart, diff_text, differences};
 use policy_lint::lint;
 use policy_tools::{Case, Directory, Failure, Report, Source, cases_in};
 use std::alloc::{AllocError, Global};
@@ -40,10 +40,11 @@ pub fn find_faults(
     ensures exact { IfOk result (λ answer. strict ≡ false → answer.is_well ≡ is_ok (policy_in directory.now policy.now)) }
     ensures err { IfErr result (λ fault. fault ≡ faults.NoMemory) }
 {
-    let report = lint(alloc, policy, directory.names(), moment, soon)?;
+    let report = lint(alloc, policy, directory, moment, soon)?;
     Ok(Answer {
         text: report.text(alloc, path)?,
         is_well: report.is_clean(strict),
+        is_sure: true,
     })
 }
 
@@ -74,6 +75,7 @@ fn tried(alloc: Global, policy: &Policy, cases: &[Case]) -> Result<Answer, Alloc
     Ok(Answer {
         text: Text::from(report_text(alloc, &report)?),
         is_well: report.failures.is_empty(),
+        is_sure: true,
     })
 }
 
@@ -88,8 +90,7 @@ pub fn try_cases(
     cases: &[u8],
     moment: u64,
 ) -> Result<Answer, AskFault>
-    ensures well { IfOk result (λ answer. IsTried directory.now policy.now moment answer) }
-    ensures refused { (fault : PolicyFault) → policy_in directory.now policy.now ≡ Err fault → IfErr result (λ found. Fails {M = Answer} found (Err (faults.Policy fault))) }
+    ensures { Gives (λ answer. answer.is_well) result (try_well directory.now policy.now cases.now moment) }
 {
     let mut source = Source::read(alloc, policy, directory.names())?;
     source.settle(moment);
@@ -97,7 +98,20 @@ pub fn try_cases(
     Ok(tried(alloc, source.policy(), cases.as_slice())?)
 }
 
-/// What would be decided otherwise at a moment if the new policy took the old one's place. It is well where nothing would.
+/// A text about the rows of two policies.
+pub(crate) fn compared(text: String, rows: &[Row]) -> Answer
+    ensures alike { (old : Rules) (new : Rules) → IsDiff old new rows.now → result.is_well ≡ true → DecideAlike old new }
+    ensures apart { (old : Rules) (new : Rules) → IsDiff old new rows.now → result.is_well ≡ false → result.is_sure ≡ true → DecideApart old new }
+{
+    Answer {
+        text: Text::from(text),
+        is_well: rows.is_empty(),
+        is_sure: rows.is_empty() || are_apart(rows),
+    }
+}
+
+/// What would be decided otherwise at a moment if the new policy took the old one's place. It is well where nothing would, and sure
+/// where something would.
 ///
 /// # Errors
 /// The first fault of the old policy, or of the new one.
@@ -108,17 +122,15 @@ pub fn compare(
     directory: &Directory,
     moment: u64,
 ) -> Result<Answer, AskFault>
-    ensures exact { Gives (λ answer. answer.is_well) result (compare_well directory.now old.now new.now moment) }
+    ensures read { Gives (λ answer. true) result (both_read directory.now old.now new.now) }
     ensures alike { IfOk result (λ answer. answer.is_well ≡ true → (before : Rules) (after : Rules) → policy_in directory.now old.now ≡ Ok before → policy_in directory.now new.now ≡ Ok after → DecideAlike (at before moment) (at after moment)) }
+    ensures apart { IfOk result (λ answer. answer.is_well ≡ false → answer.is_sure ≡ true → (before : Rules) (after : Rules) → policy_in directory.now old.now ≡ Ok before → policy_in directory.now new.now ≡ Ok after → DecideApart (at before moment) (at after moment)) }
 {
     let mut old = Source::read(alloc, old, directory.names())?;
     let mut new = Source::read(alloc, new, directory.names())?;
     old.settle(moment);
     new.settle(moment);
-    let rows = differences(alloc, &old, &new)?;
+    let rows = differences(alloc, &old, &new, directory)?;
     let text = diff_text(alloc, &old, &new, rows.as_slice(), directory)?;
-    Ok(Answer {
-        text: Text::from(text),
-        is_well: rows.is_empty(),
-    })
+    Ok(compared(text, rows.as_slice()))
 }

@@ -1,0 +1,97 @@
+//! What is said of a text that is no policy, wherever one is read.
+
+ghost use Rattle.policy_query.specs.Deciding.{policy_in};
+ghost use Rattle.std.specs.Prelude.{◌≡◌, ◌<◌, IfOk, is_ok, is_some, length, not};
+
+use byte_strings::Text;
+use policy_faults::{Fault, Place, faults_of};
+use policy_text::PolicyFault;
+use policy_tools::Directory;
+use std::alloc::{AllocError, Global};
+
+/// Where a policy's text stands.
+#[derive(Clone, Copy, Debug)]
+pub enum Origin<'a> {
+    /// In a file of its own, which may be read with a file of names.
+    File {
+        path: &'a str,
+        names: Option<&'a str>,
+    },
+    /// In a script, after the line of this number.
+    Script {
+        path: &'a str,
+        line: u64,
+    },
+}
+
+impl Origin<'_> {
+    /// Appends where a part of the text stands.
+    fn push_place(&self, text: &mut String, place: Place) -> Result<(), AllocError> {
+        let Place { line, column } = place;
+        match self {
+            Origin::File { path, .. } => write!(text, "{path}:{line}:{column}"),
+            Origin::Script { path, line: before } => {
+                let line = before.saturating_add(line as u64);
+                write!(text, "{path}:{line}:{column}")
+            }
+        }
+    }
+
+    /// Appends where to see so many faults more.
+    fn push_more(&self, text: &mut String, more: usize) -> Result<(), AllocError> {
+        match self {
+            _ if more == 0 => Ok(()),
+            Origin::File { path, names: None } => write!(text, "; see: aeron_policyd lint {path}"),
+            Origin::File {
+                path,
+                names: Some(names),
+            } => write!(text, "; see: aeron_policyd lint --names {names} {path}"),
+            Origin::Script { .. } => write!(text, "; and {more} more"),
+        }
+    }
+}
+
+/// Appends a text, in which a control character stands by its code, so that it stays on one line.
+fn push_plain(text: &mut String, words: &str) -> Result<(), AllocError> {
+    for letter in words.chars() {
+        if letter < ' ' || letter == '\u{7f}' {
+            let code = letter as u32;
+            write!(text, "<{code}>")?;
+        } else {
+            text.push(letter)?;
+        }
+    }
+    Ok(())
+}
+
+/// The first of these faults in words, and whether there are more.
+fn said(alloc: Global, faults: &[Fault], origin: Origin<'_>) -> Result<Text, AllocError> {
+    let mut text = String::new(alloc);
+    if let Some(fault) = faults.first() {
+        origin.push_place(&mut text, fault.place)?;
+        text.push_str(": ")?;
+        push_plain(&mut text, format!(in alloc; "{fault}")?.as_str())?;
+    }
+    origin.push_more(&mut text, faults.len().saturating_sub(1))?;
+    Ok(Text::from(text))
+}
+
+/// What is said of bytes that are no policy: the first fault in the words of `lint`, with its place, and where there are more, how
+/// to see them. `None` where they are one.
+pub fn refusal(
+    alloc: Global,
+    policy: &[u8],
+    directory: &Directory,
+    origin: Origin<'_>,
+) -> Result<Option<Text>, AllocError>
+    ensures { IfOk result (λ said. is_some said ≡ not (is_ok (policy_in directory.now policy.now))) }
+{
+    match policy_query::policy_in(alloc, policy, directory.names()) {
+        Ok(_) => Ok(None),
+        Err(PolicyFault::NoMemory) => Err(AllocError),
+        Err(fault) => {
+            let faults = faults_of(alloc, policy, directory, fault)?;
+            Ok(Some(said(alloc, faults.as_slice(), origin)?))
+        }
+    }
+}
