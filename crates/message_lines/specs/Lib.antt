@@ -1,3 +1,4 @@
 pub mod Cutting
 pub mod Figures
+pub mod Forms
 pub mod Joining

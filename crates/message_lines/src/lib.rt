@@ -4,10 +4,12 @@
 
 mod cutting;
 mod figures;
+mod forms;
 mod joining;
 
 pub use cutting::{Cut, first_message};
 pub use figures::{Losses, Received, Sent};
+pub use forms::{Form, print_message};
 pub use joining::Joiner;
 
 /// How long a message is at most, in bytes.

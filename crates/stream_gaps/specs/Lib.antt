@@ -1,0 +1,4 @@
+pub mod Gaps
+pub mod Sessions
+pub mod TakenUp
+pub mod Untaken
