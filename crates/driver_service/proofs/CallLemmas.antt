@@ -1,10 +1,10 @@
 -- Calls, one after another.
-use Rattle.std.proofs.Common.{arith, ◌≡◌, ℕ, ◌+◌, List, [], ◌∷◌, ◌++◌, append_assoc, sym, subst, ap, ◌∙◌, ◌⊎◌, inl, inr, refl, Bool, Result, Ok, Err, IfOk, OnOk}
+use Rattle.std.proofs.Common.{arith, ◌≡◌, ℕ, ◌+◌, List, [], ◌∷◌, ◌++◌, append_assoc, sym, subst, ap, ◌∙◌, ◌⊎◌, inl, inr, refl, Bool, true, false, true≢false, Result, Ok, Err, IfOk, OnOk}
 use Rattle.std.proofs.lemmas.List.{append-nil}
 use Rattle.std.proofs.lemmas.List.Elements.{All-append, All-cons, All-nil, All-push, All-weaker}
 use Rattle.driver_service.specs.Answering.{Answers, EndsIn, GivesMail, Offers, TakesMail, all_given, all_written, mail_given, mail_written}
-use Rattle.driver_service.specs.Calls.{Call, CallsOnly, Does, Mail, Offer, Run, Stay}
-use Rattle.driver_service.specs.Requests.{IsMail, IsOffer}
+use Rattle.driver_service.specs.Calls.{Call, CallsOnly, Does, Mail, Offer, Poll, Run, Stay}
+use Rattle.driver_service.specs.Requests.{Finishes, GaveNothing, IsMail, IsOffer, IsTry}
 use Rattle.driver_service.specs.declared.reason.Refusal.{Refusal}
 
 -- ---- runs
@@ -53,7 +53,7 @@ pub stay_alone : {S : Type 0} (does : Does S) (own : Call → Type 0) (old new :
 stay_alone does own old new stays = after_stay does own old new new stays (no_calls does own new)
 
 -- the last call
-pub ends_in : {S : Type 0} (does : Does S) (own : Call → Type 0) (old mid new : S) (last : Call) → CallsOnly does own old mid → does mid last new → own last → EndsIn does own old new last
+pub ends_in : {S : Type 0} (does : Does S) (own : Call → Type 0) (old mid new : S) (last : Call) → CallsOnly does (IsTry own) old mid → does mid last new → own last → EndsIn does own old new last
 ends_in does own old mid new last before called is = record {
   tries = before.calls;
   each = before.each;
@@ -63,11 +63,24 @@ ends_in does own old mid new last before called is = record {
 
 -- calls of which one was the last are calls
 pub of_ends : {S : Type 0} (does : Does S) (own : Call → Type 0) (old new : S) (last : Call) → EndsIn does own old new last → CallsOnly does own old new
-of_ends does own old new last ends = record { calls = ends.tries ++ last ∷ []; each = All-push own ends.tries last ends.each ends.last_is; run = ends.run }
+of_ends does own old new last ends = record {
+  calls = ends.tries ++ last ∷ [];
+  each = All-push own ends.tries last (All-weaker (IsTry own) own (λ call is. is.0) ends.tries ends.each) ends.last_is;
+  run = ends.run;
+}
+
+-- an answer that is not the last one gave nothing
+pub refused_try : (registration : ℕ) (message : List ℕ) (final : Bool) (told : Result ℕ Refusal) → Finishes final told → final ≡ false → GaveNothing (Offer registration message told)
+refused_try registration message final (Ok position) finishes not = absurd (true≢false (sym finishes ∙ not))
+refused_try registration message final (Err refusal) finishes not = record {}
+
+-- a poll that gave no fragment
+pub empty_try : (subscription source limit : ℕ) (written : List ℕ) (told : Result ℕ Refusal) → told ≡ Ok 0 → GaveNothing (Poll subscription source limit written told)
+empty_try subscription source limit written told none = subst (λ (r : Result ℕ Refusal). GaveNothing (Poll subscription source limit written r)) (sym none) refl
 
 -- one call alone, as the last
 pub ends_alone : {S : Type 0} (does : Does S) (own : Call → Type 0) (old new : S) (last : Call) → does old last new → own last → EndsIn does own old new last
-ends_alone does own old new last called is = ends_in does own old old new last (no_calls does own old) called is
+ends_alone does own old new last called is = ends_in does own old old new last (no_calls does (IsTry own) old) called is
 
 -- ---- what is answered
 

@@ -1,8 +1,12 @@
 -- What a request is answered. Own rules.
 use Rattle.std.specs.Prelude.{◌≡◌, ◌≢◌, ℕ, ℤ, ◌+◌, ◌%◌, ◌^◌, ◌⊎◌, List, [], ◌∷◌, ◌++◌, All, true, Some, None, Result, Ok, Err, IfOk, OnOk}
-use Rattle.driver_service.specs.Calls.{Call, Does, Run, Stay, Command, Offer, Poll, Mail, Look, Value}
-use Rattle.driver_service.specs.Requests.{IsCommand, IsLook, IsMail, IsOffer, IsPoll, IsValue, fragments}
+use Rattle.driver_service.specs.Calls.{Call, Does, Run, Stay, Command, Offer, Poll, Mail, Look, Value, Publication, Image}
+use Rattle.driver_service.specs.Positions.{image_record, publication_record}
+use Rattle.driver_service.specs.Requests.{IsCommand, IsImage, IsLook, IsMail, IsOffer, IsPoll, IsPublication, IsTry, IsValue, fragments, polled_pairs}
+use Rattle.driver_service.specs.Rounds.{AnswersAll}
 use Rattle.driver_service.specs.Reasons.{refusal_code, refusal_text}
+use Rattle.driver_service.specs.declared.positions.ImagePositions.{ImagePositions}
+use Rattle.driver_service.specs.declared.positions.PublicationPositions.{PublicationPositions}
 use Rattle.driver_service.specs.declared.reason.Reason.{Reason}
 use Rattle.driver_service.specs.declared.reason.Reason.TheVariants as reasons
 use Rattle.driver_service.specs.declared.reason.Refusal.{Refusal}
@@ -28,6 +32,16 @@ abbrev pub value_bytes : Result ℤ Refusal → List ℕ
 value_bytes (Ok value) = answer_bytes (answers.Value value) []
 value_bytes (Err refusal) = refused_bytes refusal
 
+-- how far a publication has come, or a refusal
+abbrev pub publication_bytes : Result PublicationPositions Refusal → List ℕ
+publication_bytes (Ok positions) = publication_record positions
+publication_bytes (Err refusal) = refused_bytes refusal
+
+-- how far a subscription has come with a log, or a refusal
+abbrev pub image_bytes : Result ImagePositions Refusal → List ℕ
+image_bytes (Ok positions) = image_record positions
+image_bytes (Err refusal) = refused_bytes refusal
+
 -- the records of a call: what it wrote, and what it gave
 abbrev pub call_bytes : Call → List ℕ
 call_bytes Stay = []
@@ -39,11 +53,13 @@ call_bytes (Poll subscription source limit written result) = written ++ done_byt
 call_bytes (Mail written result) = written
 call_bytes (Look written result) = written ++ done_bytes result
 call_bytes (Value number result) = value_bytes result
+call_bytes (Publication registration result) = publication_bytes result
+call_bytes (Image subscription source result) = image_bytes result
 
--- calls of one kind were does, of which this was the last
+-- calls of one kind, of which this is the last: each before it was the same call, and gave nothing
 pub record EndsIn {S : Type 0} (does : Does S) (own : Call → Type 0) (old new : S) (last : Call) : Type 0 where
   pub tries : List Call
-  pub each : All own tries
+  pub each : All (IsTry own) tries
   pub last_is : own last
   pub run : Run does old (tries ++ last ∷ []) new
 
@@ -139,6 +155,9 @@ IsAnswer does (requests.Value number) tail refusals later old new out after told
 IsAnswer does requests.Stop tail refusals later old new out after told = Refuses old new reasons.NotOperator out after told
 IsAnswer does requests.Reload tail refusals later old new out after told = Refuses old new reasons.NotOperator out after told
 IsAnswer does requests.Status tail refusals later old new out after told = Refuses old new reasons.NotOperator out after told
+IsAnswer does (requests.PollAll limit wait) tail refusals later old new out after told = AnswersAll does (fragments limit) (polled_pairs tail) old new out after told
+IsAnswer does (requests.PublicationPositions registration) tail refusals later old new out after told = Answers does (IsPublication registration) old new out after told
+IsAnswer does (requests.ImagePositions subscription source) tail refusals later old new out after told = Answers does (IsImage subscription source) old new out after told
 
 -- only an offer changes how many refusals there are
 abbrev pub KeepsRefusals : Request → ℕ → ℕ → Type 0

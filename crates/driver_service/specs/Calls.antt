@@ -1,5 +1,7 @@
 -- What a connection does for its client: calls of that client, each with what it was answered. Own rules.
 use Rattle.std.specs.Prelude.{◌≡◌, ℕ, ℤ, List, [], ◌∷◌, ◌++◌, All, Bool, Option, Some, None, Result, Ok, Err}
+use Rattle.driver_service.specs.declared.positions.ImagePositions.{ImagePositions}
+use Rattle.driver_service.specs.declared.positions.PublicationPositions.{PublicationPositions}
 use Rattle.driver_service.specs.declared.reason.Refusal.{Refusal}
 
 pub data Call : Type 0 where
@@ -17,6 +19,10 @@ pub data Call : Type 0 where
   Look : List ℕ → Result ℕ Refusal → Call
   -- of this number
   Value : ℕ → Result ℤ Refusal → Call
+  -- by this registration, how far its log has come
+  Publication : ℕ → Result PublicationPositions Refusal → Call
+  -- by this subscription, how far it has come with that log
+  Image : ℕ → ℕ → Result ImagePositions Refusal → Call
 
 -- the refusal of a call that gives nothing else
 abbrev pub refusal_of : {T : Type 0} → Result T Refusal → Option Refusal

@@ -1,4 +1,6 @@
+pub mod Positions
 pub mod Calls
 pub mod Requests
 pub mod Reasons
+pub mod Rounds
 pub mod Answering

@@ -1,13 +1,15 @@
 //! What a request does, and what it is answered.
 
 ghost use Rattle.driver_service.specs.Calls.{Call, CallsOnly};
-ghost use Rattle.driver_service.specs.Requests.{DoesRecord, IsAllowed, IsCommand, IsLook, IsOffer, IsPoll, IsValue, fragments};
+ghost use Rattle.driver_service.specs.Requests.{DoesRecord, Finishes, IsAllowed, IsCommand, IsImage, IsLook, IsOffer, IsPoll, IsPublication, IsValue, fragments};
 ghost use Rattle.driver_service.specs.Answering.{Answers, AnswersRecord, EndsIn, GivesMail, IsAnswered, Offers, done_bytes, fault_reason, refused_bytes, value_bytes};
 ghost use Rattle.driver_service.specs.Calls.{Offer, Poll, Writes};
 ghost use Rattle.service_records.specs.Request.{request_of};
 ghost use Rattle.std.specs.Prelude.{◌≡◌, ◌++◌, List, OnOk};
 
+use crate::positions::{tell_image, tell_publication};
 use crate::reason::{Reason, Refusal};
+use crate::rounds::answer_rounds;
 use crate::seat::{Pauses, Seat};
 use crate::waiting::Waiting;
 use service_records::{Answer, RecordFault, Request};
@@ -30,7 +32,7 @@ pub struct Connection<S: Seat> {
 }
 
 /// A request is refused.
-fn refuse(refusal: &Refusal, out: &mut Vec<u8>) -> Result<(), AllocError>
+pub(crate) fn refuse(refusal: &Refusal, out: &mut Vec<u8>) -> Result<(), AllocError>
     ensures { OnOk result (out.new.items ≡ out.old.items ++ refused_bytes refusal.now) }
 {
     let code = refusal.code();
@@ -69,7 +71,9 @@ fn reason_of(fault: RecordFault) -> Reason
 }
 
 /// Whether the same offer would be answered so again.
-fn is_final(told: &Result<u64, Refusal>) -> bool {
+fn is_final(told: &Result<u64, Refusal>) -> bool
+    ensures { Finishes result told.now }
+{
     match told {
         Ok(_) => true,
         Err(refusal) => !refusal.may_pass(),
@@ -89,13 +93,19 @@ fn few(limit: u32) -> u32
 }
 
 impl<S: Seat> Connection<S> {
-    pub fn new(seat: S) -> Connection<S> {
+    /// A connection of that client, of whose offers none was refused yet.
+    pub fn new(seat: S) -> Connection<S>
+        ensures seat { result.seat ≡ seat }
+        ensures refusals { result.refusals ≡ 0 }
+    {
         Connection { seat, refusals: 0 }
     }
 
+    /// Its client.
     pub fn into_seat(self) -> S
     where
         S: Drop,
+        ensures { result ≡ self.seat }
     {
         let Connection { seat, refusals: _ } = self;
         seat
@@ -263,6 +273,31 @@ impl<S: Seat> Connection<S> {
         tell_value(&given, out)
     }
 
+    fn publication_positions(
+        &mut self,
+        registration: u64,
+        out: &mut Vec<u8>,
+    ) -> Result<(), AllocError>
+        ensures answers { Answers S.does (IsPublication registration) self.old.seat self.new.seat out.old.items out.new.items result }
+        ensures refusals { self.new.refusals ≡ self.old.refusals }
+    {
+        let given = self.seat.publication_positions(registration);
+        tell_publication(&given, out)
+    }
+
+    fn image_positions(
+        &mut self,
+        subscription: u64,
+        source: u64,
+        out: &mut Vec<u8>,
+    ) -> Result<(), AllocError>
+        ensures answers { Answers S.does (IsImage subscription source) self.old.seat self.new.seat out.old.items out.new.items result }
+        ensures refusals { self.new.refusals ≡ self.old.refusals }
+    {
+        let given = self.seat.image_positions(subscription, source);
+        tell_image(&given, out)
+    }
+
     fn command(&mut self, bytes: &[u8], out: &mut Vec<u8>) -> Result<(), AllocError>
         ensures answers { Answers S.does (IsCommand bytes.now) self.old.seat self.new.seat out.old.items out.new.items result }
         ensures refusals { self.new.refusals ≡ self.old.refusals }
@@ -309,6 +344,17 @@ impl<S: Seat> Connection<S> {
             Request::Stop => refuse(&Refusal::Because(Reason::NotOperator), out),
             Request::Reload => refuse(&Refusal::Because(Reason::NotOperator), out),
             Request::Status => refuse(&Refusal::Because(Reason::NotOperator), out),
+            Request::PollAll { limit, wait } => {
+                let limit = few(limit);
+                answer_rounds(rt, pauses, &mut self.seat, tail, limit, wait, out)
+            }
+            Request::PublicationPositions { registration } => {
+                self.publication_positions(registration, out)
+            }
+            Request::ImagePositions {
+                subscription,
+                source,
+            } => self.image_positions(subscription, source, out),
         }
     }
 

@@ -1,8 +1,9 @@
 //! A client, as a connection uses it.
 
-ghost use Rattle.driver_service.specs.Calls.{Call, Command, Look, Mail as Mailed, Offer, Poll, Stay, Value, Writes, refusal_of};
+ghost use Rattle.driver_service.specs.Calls.{Call, Command, Image, Look, Mail as Mailed, Offer, Poll, Publication, Stay, Value, Writes, refusal_of};
 ghost use Rattle.std.specs.Prelude.{◌≡◌, [], Ok};
 
+use crate::positions::{ImagePositions, PublicationPositions};
 use crate::reason::{Reason, Refusal};
 
 /// A client of a driver, as a connection uses it. Each call is one call of that client, and of no other. What is answered by
@@ -44,6 +45,14 @@ pub trait Seat {
     /// The value of a counter.
     fn value(&mut self, number: u64) -> Result<i64, Refusal>
         ensures { does self.old (Value number result) self.new };
+
+    /// How far a publication of the client's has come.
+    fn publication_positions(&mut self, registration: u64) -> Result<PublicationPositions, Refusal>
+        ensures { does self.old (Publication registration result) self.new };
+
+    /// How far a subscription of the client's has come with a log.
+    fn image_positions(&mut self, subscription: u64, source: u64) -> Result<ImagePositions, Refusal>
+        ensures { does self.old (Image subscription source result) self.new };
 
     /// Why the client is gone, where it is.
     fn gone(&self) -> Option<Reason>;

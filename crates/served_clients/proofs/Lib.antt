@@ -1,1 +1,2 @@
+pub mod ActLemmas
 pub mod TellLemmas

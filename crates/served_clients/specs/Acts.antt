@@ -4,18 +4,25 @@ use Rattle.command_codec.specs.declared.command.Body.TheVariants.{ClientKeepaliv
 use Rattle.driver_core.specs.Listing.{list, value}
 use Rattle.driver_core.specs.declared.listing.Listed.{Listed}
 use Rattle.driver_core.specs.declared.listing.Shown.{Shown}
+use Rattle.driver_service.specs.declared.positions.ImagePositions.{ImagePositions}
+use Rattle.driver_service.specs.declared.positions.PublicationPositions.{PublicationPositions}
 use Rattle.driver_service.specs.declared.reason.Refusal.{Refusal}
-use Rattle.driver_service.specs.Calls.{Call, Stay, Command, Offer, Poll, Mail, Look, Value}
+use Rattle.driver_service.specs.Calls.{Call, Stay, Command, Offer, Poll, Mail, Look, Value, Publication, Image}
 use Rattle.log_arena.specs.Homes.{Home}
 use Rattle.log_pairs.specs.Polling.{Fetched}
+use Rattle.log_slots.specs.declared.positions.PublicationPositions.{PublicationPositions as LogPositions}
 use Rattle.media_agents.specs.Mails.{Posted}
 use Rattle.media_driver.specs.Clients.{Attached, Commands, Hands, IsUnseen, Looks, TakesMail}
+use Rattle.media_driver.specs.Positions.{IsPublicationShown, IsReadingShown, publication_of, reading_of}
 use Rattle.media_driver.specs.Steps.{Counts, IsOffer, IsPoll}
 use Rattle.media_driver.specs.declared.faults.LookFault.{LookFault}
 use Rattle.media_driver.specs.declared.faults.OfferFault.{OfferFault}
 use Rattle.media_driver.specs.declared.faults.PollFault.{PollFault}
+use Rattle.media_driver.specs.declared.faults.PositionFault.{PositionFault}
 use Rattle.media_driver.specs.declared.faults.PushFault.{PushFault}
+use Rattle.media_driver.specs.declared.positions.ImagePositions.{ImagePositions as ReadPositions}
 use Rattle.published_registry.specs.Histories.{IsContinuedBy, registry_of}
+use Rattle.served_clients.specs.Positions.{TellsImage, TellsPublication}
 use Rattle.served_clients.specs.Telling.{TellsList, TellsMail, TellsOffer, TellsPoll, TellsValue}
 
 -- nothing is done, or the client says that it is still there
@@ -65,6 +72,20 @@ pub record ValuesBy (old new : Attached) (number : ℕ) (told : Result ℤ Refus
   pub shown : IfOk gave (λ shown. shown ≡ value (registry_of new.known) old.number number)
   pub told_is : TellsValue gave told
 
+-- it is shown how far its own publication has come
+pub record PublicationBy (home : Home) (old new : Attached) (registration : ℕ) (told : Result PublicationPositions Refusal) : Type 0 where
+  pub gave : Result LogPositions PositionFault
+  pub looks : Looks old new
+  pub shown : IsPublicationShown home old.moment (publication_of (registry_of new.known) old.number registration) gave
+  pub told_is : TellsPublication gave told
+
+-- it is shown how far its own subscription has come with a log
+pub record ImageBy (home : Home) (old new : Attached) (subscription source : ℕ) (told : Result ImagePositions Refusal) : Type 0 where
+  pub gave : Result ReadPositions PositionFault
+  pub looks : Looks old new
+  pub shown : IsReadingShown home subscription (reading_of (registry_of new.known) old.number subscription source) gave
+  pub told_is : TellsImage gave told
+
 -- A client before and after a call of its connection.
 abbrev pub IsAct : Home → Attached → Call → Attached → Type 0
 IsAct home old Stay new = Stays old new
@@ -74,3 +95,5 @@ IsAct home old (Poll subscription source limit written told) new = PollsBy home 
 IsAct home old (Mail written told) new = TakesReply old new written told
 IsAct home old (Look written told) new = ListsBy old new written told
 IsAct home old (Value number told) new = ValuesBy old new number told
+IsAct home old (Publication registration told) new = PublicationBy home old new registration told
+IsAct home old (Image subscription source told) new = ImageBy home old new subscription source told

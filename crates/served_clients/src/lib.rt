@@ -8,9 +8,12 @@ mod habits;
 mod keeper;
 mod looking;
 mod polling;
+mod positions;
 mod refusing;
 mod replying;
 mod served;
+mod serving;
 
 pub use keeper::Keeper;
 pub use served::Served;
+pub use serving::serve;

@@ -6,9 +6,10 @@ use crate::habits::Habits;
 use crate::keeper::Keeper;
 use crate::looking::{tell_list, tell_value};
 use crate::polling::tell_poll;
+use crate::positions::{tell_image, tell_publication};
 use crate::refusing::{reason_of_push, tell_offer};
 use crate::replying::tell_mail;
-use driver_service::{Reason, Refusal, Seat};
+use driver_service::{ImagePositions, PublicationPositions, Reason, Refusal, Seat};
 use media_driver::{Client, Clock, DriverNaming};
 use std::alloc::Global;
 use std::sync::Wait;
@@ -125,6 +126,23 @@ impl<N: DriverNaming, C: Clock, R: Wait + Drop, K: Keeper + Drop> Seat for Serve
     fn value(&mut self, number: u64) -> Result<i64, Refusal> {
         let gave = self.client.counter_value(number);
         tell_value(self.alloc, &gave)
+    }
+
+    fn publication_positions(
+        &mut self,
+        registration: u64,
+    ) -> Result<PublicationPositions, Refusal> {
+        let gave = self.client.publication_positions(&self.rt, registration);
+        tell_publication(gave)
+    }
+
+    fn image_positions(
+        &mut self,
+        subscription: u64,
+        source: u64,
+    ) -> Result<ImagePositions, Refusal> {
+        let gave = self.client.image_positions(&self.rt, subscription, source);
+        tell_image(gave)
     }
 
     fn gone(&self) -> Option<Reason> {

@@ -8,15 +8,9 @@ use Rattle.service_records.specs.declared.answer.Answer.{Answer}
 use Rattle.service_records.specs.declared.answer.Answer.TheVariants as answers
 use Rattle.service_records.specs.Gives.{◌>>=◌}
 use Rattle.service_records.specs.Fields.{number_at, signed_at, ended, number_bytes, signed_bytes, IsBytes}
-use Rattle.service_records.specs.Answer.{welcome_in, reply_in, taken_in, refused_in, fragment_in, done_in, row_in, value_in, bye_in, line_in, answer_in, answer_of, kind_number, fields_bytes, answer_body, IsAnswer, IsTail}
+use Rattle.service_records.specs.Answer.{welcome_in, reply_in, taken_in, refused_in, fragment_in, done_in, row_in, value_in, bye_in, line_in, part_in, part_refused_in, publication_positions_in, image_positions_in, answer_in, answer_of, kind_number, fields_bytes, answer_body, IsAnswer, IsTail}
+use Rattle.service_records.proofs.PositionLemmas.{Taken, publication_positions_takes, publication_positions_again, image_positions_takes, image_positions_again}
 use Rattle.service_records.proofs.FieldLemmas.{bind_ok, step, ok_is, chosen, Takes-then, number_takes, number_again, signed32_takes, signed32_again, signed64_takes, signed64_again, ended_takes}
-
--- what was read after a kind is what was written, and can be written
-pub record Taken (bytes : List ℕ) (kind : ℕ) (x : Answer × List ℕ) : Type 0 where
-  pub kind_is : kind ≡ kind_number x.0
-  pub parts : bytes ≡ fields_bytes x.0 ++ x.1
-  pub fits : IsAnswer x.0
-  pub tail : IsTail x.0 x.1
 
 welcome_takes : (bytes : List ℕ) (x : Answer × List ℕ) → IsBytes bytes → welcome_in bytes ≡ Ok x → Taken bytes 257 x
 unfolding kind_number fields_bytes
@@ -220,6 +214,42 @@ line_again : (tail : List ℕ) → line_in (fields_bytes answers.Line ++ tail) �
 unfolding fields_bytes
 line_again tail = refl
 
+part_takes : (bytes : List ℕ) (x : Answer × List ℕ) → IsBytes bytes → part_in bytes ≡ Ok x → Taken bytes 267 x
+unfolding kind_number fields_bytes
+part_takes bytes x fits e =
+    elim (bind_ok (number_at 4 bytes) (λ place. ended (answers.Part place.0, []) place.1) x e) [
+      | step place place_is after_place ↦
+          let t_place = number_takes 4 bytes place fits place_is in
+          let made : Answer × List ℕ = (answers.Part place.0, []) in
+          let last = ended_takes made x place.1 after_place in
+          let all : bytes ≡ (number_bytes 4 place.0) ++ [] = t_place.0.parts ∙ ap (λ (rest : List ℕ). (number_bytes 4 place.0) ++ rest) last.1 in
+          let found : Taken bytes 267 made = record { kind_is = refl; parts = all; fits = t_place.1; tail = refl } in
+          subst (λ (y : Answer × List ℕ). Taken bytes 267 y) last.0 found
+    ]
+
+part_again : (place : ℕ) → IsAnswer (answers.Part place) → part_in (fields_bytes (answers.Part place) ++ []) ≡ Ok ((answers.Part place), [])
+unfolding fields_bytes
+part_again place fits =
+    let regrouped : fields_bytes (answers.Part place) ++ [] ≡ number_bytes 4 place ++ [] = refl in
+    ap part_in regrouped ∙ rw (number_again 4 place ([]) fits) refl
+
+part_refused_takes : (bytes : List ℕ) (x : Answer × List ℕ) → IsBytes bytes → part_refused_in bytes ≡ Ok x → Taken bytes 268 x
+unfolding kind_number fields_bytes
+part_refused_takes bytes x fits e =
+    elim (bind_ok (signed_at w32 4 bytes) (λ code. Ok (answers.PartRefused code.0, code.1)) x e) [
+      | step code code_is after_code ↦
+          let t_code = signed32_takes bytes code fits code_is in
+          let made : Answer × List ℕ = (answers.PartRefused code.0, code.1) in
+          let found : Taken bytes 268 made = record { kind_is = refl; parts = t_code.0.parts; fits = t_code.1; tail = record {} } in
+          subst (λ (y : Answer × List ℕ). Taken bytes 268 y) (ok_is made x after_code) found
+    ]
+
+part_refused_again : (code : ℤ) (tail : List ℕ) → IsAnswer (answers.PartRefused code) → part_refused_in (fields_bytes (answers.PartRefused code) ++ tail) ≡ Ok ((answers.PartRefused code), tail)
+unfolding fields_bytes
+part_refused_again code tail fits =
+    let regrouped : fields_bytes (answers.PartRefused code) ++ tail ≡ signed_bytes w32 4 code ++ tail = refl in
+    ap part_refused_in regrouped ∙ rw (signed32_again code (tail) fits) refl
+
 -- ---- the kind
 
 abbrev none : Result (Answer × List ℕ) RecordFault
@@ -231,37 +261,53 @@ unknown_is_none x e = cc
 kind_takes : (kind : ℕ) (bytes : List ℕ) (x : Answer × List ℕ) → IsBytes bytes → answer_in kind bytes ≡ Ok x → Taken bytes kind x
 unfolding answer_in
 kind_takes kind bytes x fits e =
-    elim (chosen (eqb kind 257) (welcome_in bytes) (cond (eqb kind 258) (reply_in bytes) (cond (eqb kind 259) (taken_in bytes) (cond (eqb kind 260) (refused_in bytes) (cond (eqb kind 261) (fragment_in bytes) (cond (eqb kind 262) (done_in bytes) (cond (eqb kind 263) (row_in bytes) (cond (eqb kind 264) (value_in bytes) (cond (eqb kind 265) (bye_in bytes) (cond (eqb kind 266) (line_in bytes) (Err Unknown)))))))))) x e) [
+    elim (chosen (eqb kind 257) (welcome_in bytes) (cond (eqb kind 258) (reply_in bytes) (cond (eqb kind 259) (taken_in bytes) (cond (eqb kind 260) (refused_in bytes) (cond (eqb kind 261) (fragment_in bytes) (cond (eqb kind 262) (done_in bytes) (cond (eqb kind 263) (row_in bytes) (cond (eqb kind 264) (value_in bytes) (cond (eqb kind 265) (bye_in bytes) (cond (eqb kind 266) (line_in bytes) (cond (eqb kind 267) (part_in bytes) (cond (eqb kind 268) (part_refused_in bytes) (cond (eqb kind 269) (publication_positions_in bytes) (cond (eqb kind 270) (image_positions_in bytes) (Err Unknown)))))))))))))) x e) [
       | inl here ↦ subst (λ (k : ℕ). Taken bytes k x) (sym (eqb-true kind 257 here.0)) (welcome_takes bytes x fits here.1)
       | inr later0 ↦
-          elim (chosen (eqb kind 258) (reply_in bytes) (cond (eqb kind 259) (taken_in bytes) (cond (eqb kind 260) (refused_in bytes) (cond (eqb kind 261) (fragment_in bytes) (cond (eqb kind 262) (done_in bytes) (cond (eqb kind 263) (row_in bytes) (cond (eqb kind 264) (value_in bytes) (cond (eqb kind 265) (bye_in bytes) (cond (eqb kind 266) (line_in bytes) (Err Unknown))))))))) x later0.1) [
+          elim (chosen (eqb kind 258) (reply_in bytes) (cond (eqb kind 259) (taken_in bytes) (cond (eqb kind 260) (refused_in bytes) (cond (eqb kind 261) (fragment_in bytes) (cond (eqb kind 262) (done_in bytes) (cond (eqb kind 263) (row_in bytes) (cond (eqb kind 264) (value_in bytes) (cond (eqb kind 265) (bye_in bytes) (cond (eqb kind 266) (line_in bytes) (cond (eqb kind 267) (part_in bytes) (cond (eqb kind 268) (part_refused_in bytes) (cond (eqb kind 269) (publication_positions_in bytes) (cond (eqb kind 270) (image_positions_in bytes) (Err Unknown))))))))))))) x later0.1) [
             | inl here ↦ subst (λ (k : ℕ). Taken bytes k x) (sym (eqb-true kind 258 here.0)) (reply_takes bytes x fits here.1)
             | inr later1 ↦
-                elim (chosen (eqb kind 259) (taken_in bytes) (cond (eqb kind 260) (refused_in bytes) (cond (eqb kind 261) (fragment_in bytes) (cond (eqb kind 262) (done_in bytes) (cond (eqb kind 263) (row_in bytes) (cond (eqb kind 264) (value_in bytes) (cond (eqb kind 265) (bye_in bytes) (cond (eqb kind 266) (line_in bytes) (Err Unknown)))))))) x later1.1) [
+                elim (chosen (eqb kind 259) (taken_in bytes) (cond (eqb kind 260) (refused_in bytes) (cond (eqb kind 261) (fragment_in bytes) (cond (eqb kind 262) (done_in bytes) (cond (eqb kind 263) (row_in bytes) (cond (eqb kind 264) (value_in bytes) (cond (eqb kind 265) (bye_in bytes) (cond (eqb kind 266) (line_in bytes) (cond (eqb kind 267) (part_in bytes) (cond (eqb kind 268) (part_refused_in bytes) (cond (eqb kind 269) (publication_positions_in bytes) (cond (eqb kind 270) (image_positions_in bytes) (Err Unknown)))))))))))) x later1.1) [
                   | inl here ↦ subst (λ (k : ℕ). Taken bytes k x) (sym (eqb-true kind 259 here.0)) (taken_takes bytes x fits here.1)
                   | inr later2 ↦
-                      elim (chosen (eqb kind 260) (refused_in bytes) (cond (eqb kind 261) (fragment_in bytes) (cond (eqb kind 262) (done_in bytes) (cond (eqb kind 263) (row_in bytes) (cond (eqb kind 264) (value_in bytes) (cond (eqb kind 265) (bye_in bytes) (cond (eqb kind 266) (line_in bytes) (Err Unknown))))))) x later2.1) [
+                      elim (chosen (eqb kind 260) (refused_in bytes) (cond (eqb kind 261) (fragment_in bytes) (cond (eqb kind 262) (done_in bytes) (cond (eqb kind 263) (row_in bytes) (cond (eqb kind 264) (value_in bytes) (cond (eqb kind 265) (bye_in bytes) (cond (eqb kind 266) (line_in bytes) (cond (eqb kind 267) (part_in bytes) (cond (eqb kind 268) (part_refused_in bytes) (cond (eqb kind 269) (publication_positions_in bytes) (cond (eqb kind 270) (image_positions_in bytes) (Err Unknown))))))))))) x later2.1) [
                         | inl here ↦ subst (λ (k : ℕ). Taken bytes k x) (sym (eqb-true kind 260 here.0)) (refused_takes bytes x fits here.1)
                         | inr later3 ↦
-                            elim (chosen (eqb kind 261) (fragment_in bytes) (cond (eqb kind 262) (done_in bytes) (cond (eqb kind 263) (row_in bytes) (cond (eqb kind 264) (value_in bytes) (cond (eqb kind 265) (bye_in bytes) (cond (eqb kind 266) (line_in bytes) (Err Unknown)))))) x later3.1) [
+                            elim (chosen (eqb kind 261) (fragment_in bytes) (cond (eqb kind 262) (done_in bytes) (cond (eqb kind 263) (row_in bytes) (cond (eqb kind 264) (value_in bytes) (cond (eqb kind 265) (bye_in bytes) (cond (eqb kind 266) (line_in bytes) (cond (eqb kind 267) (part_in bytes) (cond (eqb kind 268) (part_refused_in bytes) (cond (eqb kind 269) (publication_positions_in bytes) (cond (eqb kind 270) (image_positions_in bytes) (Err Unknown)))))))))) x later3.1) [
                               | inl here ↦ subst (λ (k : ℕ). Taken bytes k x) (sym (eqb-true kind 261 here.0)) (fragment_takes bytes x fits here.1)
                               | inr later4 ↦
-                                  elim (chosen (eqb kind 262) (done_in bytes) (cond (eqb kind 263) (row_in bytes) (cond (eqb kind 264) (value_in bytes) (cond (eqb kind 265) (bye_in bytes) (cond (eqb kind 266) (line_in bytes) (Err Unknown))))) x later4.1) [
+                                  elim (chosen (eqb kind 262) (done_in bytes) (cond (eqb kind 263) (row_in bytes) (cond (eqb kind 264) (value_in bytes) (cond (eqb kind 265) (bye_in bytes) (cond (eqb kind 266) (line_in bytes) (cond (eqb kind 267) (part_in bytes) (cond (eqb kind 268) (part_refused_in bytes) (cond (eqb kind 269) (publication_positions_in bytes) (cond (eqb kind 270) (image_positions_in bytes) (Err Unknown))))))))) x later4.1) [
                                     | inl here ↦ subst (λ (k : ℕ). Taken bytes k x) (sym (eqb-true kind 262 here.0)) (done_takes bytes x fits here.1)
                                     | inr later5 ↦
-                                        elim (chosen (eqb kind 263) (row_in bytes) (cond (eqb kind 264) (value_in bytes) (cond (eqb kind 265) (bye_in bytes) (cond (eqb kind 266) (line_in bytes) (Err Unknown)))) x later5.1) [
+                                        elim (chosen (eqb kind 263) (row_in bytes) (cond (eqb kind 264) (value_in bytes) (cond (eqb kind 265) (bye_in bytes) (cond (eqb kind 266) (line_in bytes) (cond (eqb kind 267) (part_in bytes) (cond (eqb kind 268) (part_refused_in bytes) (cond (eqb kind 269) (publication_positions_in bytes) (cond (eqb kind 270) (image_positions_in bytes) (Err Unknown)))))))) x later5.1) [
                                           | inl here ↦ subst (λ (k : ℕ). Taken bytes k x) (sym (eqb-true kind 263 here.0)) (row_takes bytes x fits here.1)
                                           | inr later6 ↦
-                                              elim (chosen (eqb kind 264) (value_in bytes) (cond (eqb kind 265) (bye_in bytes) (cond (eqb kind 266) (line_in bytes) (Err Unknown))) x later6.1) [
+                                              elim (chosen (eqb kind 264) (value_in bytes) (cond (eqb kind 265) (bye_in bytes) (cond (eqb kind 266) (line_in bytes) (cond (eqb kind 267) (part_in bytes) (cond (eqb kind 268) (part_refused_in bytes) (cond (eqb kind 269) (publication_positions_in bytes) (cond (eqb kind 270) (image_positions_in bytes) (Err Unknown))))))) x later6.1) [
                                                 | inl here ↦ subst (λ (k : ℕ). Taken bytes k x) (sym (eqb-true kind 264 here.0)) (value_takes bytes x fits here.1)
                                                 | inr later7 ↦
-                                                    elim (chosen (eqb kind 265) (bye_in bytes) (cond (eqb kind 266) (line_in bytes) (Err Unknown)) x later7.1) [
+                                                    elim (chosen (eqb kind 265) (bye_in bytes) (cond (eqb kind 266) (line_in bytes) (cond (eqb kind 267) (part_in bytes) (cond (eqb kind 268) (part_refused_in bytes) (cond (eqb kind 269) (publication_positions_in bytes) (cond (eqb kind 270) (image_positions_in bytes) (Err Unknown)))))) x later7.1) [
                                                       | inl here ↦ subst (λ (k : ℕ). Taken bytes k x) (sym (eqb-true kind 265 here.0)) (bye_takes bytes x fits here.1)
                                                       | inr later8 ↦
-                                                          elim (chosen (eqb kind 266) (line_in bytes) (Err Unknown) x later8.1) [
+                                                          elim (chosen (eqb kind 266) (line_in bytes) (cond (eqb kind 267) (part_in bytes) (cond (eqb kind 268) (part_refused_in bytes) (cond (eqb kind 269) (publication_positions_in bytes) (cond (eqb kind 270) (image_positions_in bytes) (Err Unknown))))) x later8.1) [
                                                             | inl here ↦ subst (λ (k : ℕ). Taken bytes k x) (sym (eqb-true kind 266 here.0)) (line_takes bytes x fits here.1)
                                                             | inr later9 ↦
-                                                                absurd (unknown_is_none x later9.1)
+                                                                elim (chosen (eqb kind 267) (part_in bytes) (cond (eqb kind 268) (part_refused_in bytes) (cond (eqb kind 269) (publication_positions_in bytes) (cond (eqb kind 270) (image_positions_in bytes) (Err Unknown)))) x later9.1) [
+                                                                  | inl here ↦ subst (λ (k : ℕ). Taken bytes k x) (sym (eqb-true kind 267 here.0)) (part_takes bytes x fits here.1)
+                                                                  | inr later10 ↦
+                                                                      elim (chosen (eqb kind 268) (part_refused_in bytes) (cond (eqb kind 269) (publication_positions_in bytes) (cond (eqb kind 270) (image_positions_in bytes) (Err Unknown))) x later10.1) [
+                                                                        | inl here ↦ subst (λ (k : ℕ). Taken bytes k x) (sym (eqb-true kind 268 here.0)) (part_refused_takes bytes x fits here.1)
+                                                                        | inr later11 ↦
+                                                                            elim (chosen (eqb kind 269) (publication_positions_in bytes) (cond (eqb kind 270) (image_positions_in bytes) (Err Unknown)) x later11.1) [
+                                                                              | inl here ↦ subst (λ (k : ℕ). Taken bytes k x) (sym (eqb-true kind 269 here.0)) (publication_positions_takes bytes x fits here.1)
+                                                                              | inr later12 ↦
+                                                                                  elim (chosen (eqb kind 270) (image_positions_in bytes) (Err Unknown) x later12.1) [
+                                                                                    | inl here ↦ subst (λ (k : ℕ). Taken bytes k x) (sym (eqb-true kind 270 here.0)) (image_positions_takes bytes x fits here.1)
+                                                                                    | inr later13 ↦
+                                                                                        absurd (unknown_is_none x later13.1)
+                                                                                  ]
+                                                                            ]
+                                                                      ]
+                                                                ]
                                                           ]
                                                     ]
                                               ]
@@ -285,6 +331,10 @@ kind_again (answers.Row number type_id value) tail fits ok = row_again number ty
 kind_again (answers.Value value) tail fits ok = rw ok (value_again value fits)
 kind_again (answers.Bye code) tail fits ok = bye_again code tail fits
 kind_again answers.Line tail fits ok = line_again tail
+kind_again (answers.Part place) tail fits ok = rw ok (part_again place fits)
+kind_again (answers.PartRefused code) tail fits ok = part_refused_again code tail fits
+kind_again (answers.PublicationPositions position limit sent consumed flags) tail fits ok = rw ok (publication_positions_again position limit sent consumed flags fits)
+kind_again (answers.ImagePositions joined position received) tail fits ok = rw ok (image_positions_again joined position received fits)
 
 kind_fits : (x : Answer) → kind_number x < 256 ^ 4
 unfolding kind_number
@@ -298,6 +348,10 @@ kind_fits (answers.Row number type_id value) = omega arith
 kind_fits (answers.Value value) = omega arith
 kind_fits (answers.Bye code) = omega arith
 kind_fits answers.Line = omega arith
+kind_fits (answers.Part place) = omega arith
+kind_fits (answers.PartRefused code) = omega arith
+kind_fits (answers.PublicationPositions position limit sent consumed flags) = omega arith
+kind_fits (answers.ImagePositions joined position received) = omega arith
 
 -- ---- the whole
 

@@ -1,8 +1,8 @@
 -- A field that is read is the field that was written, and what was written is read again.
-use Rattle.std.proofs.Common.{◌≡◌, ℕ, ℤ, ◌+◌, ◌^◌, ◌<◌, ◌≤◌, Bool, true, false, cond, ltb, List, [], ◌++◌, length, take, drop, Option, Some, None, ok_or, Result, Ok, Err, refl, sym, ap, subst, ◌∙◌, append_assoc, arith, ◌⊎◌, inl, inr}
+use Rattle.std.proofs.Common.{◌≡◌, ℕ, ℤ, ◌+◌, ◌%◌, ◌^◌, ◌<◌, ◌≤◌, Bool, true, false, cond, eqb, ltb, List, [], ◌++◌, length, take, drop, Option, Some, None, ok_or, Result, Ok, Err, refl, sym, ap, subst, ◌∙◌, append_assoc, arith, ◌⊎◌, inl, inr}
 use Rattle.std.specs.Prelude.{FitsSigned}
 use Rattle.std.specs.Int.{Width, w32, w64, cast_signed, cast_unsigned}
-use Rattle.std.proofs.lemmas.Bool.{ltb-false, le-ltb}
+use Rattle.std.proofs.lemmas.Bool.{eqb-true, ltb-false, le-ltb}
 use Rattle.std.proofs.lemmas.List.{drop_at, take-append-drop, length-append, get_or-drop, nil_from_length, append-nil}
 use Rattle.std.proofs.lemmas.Int.{of_z-to_z, to_z-of_z}
 use Rattle.std.proofs.Math.Facts.{sfits_to_z, Fits-of_z}
@@ -10,7 +10,7 @@ use Rattle.byteorder.specs.Numbers.{little_from-lt, little_number-reads_back, le
 use Rattle.service_records.specs.declared.fault.RecordFault.{RecordFault}
 use Rattle.service_records.specs.declared.fault.RecordFault.TheVariants.{Malformed}
 use Rattle.service_records.specs.Gives.{◌>>=◌}
-use Rattle.service_records.specs.Fields.{number_in, number_at, signed_at, ended, number_bytes, signed_bytes, IsBytes}
+use Rattle.service_records.specs.Fields.{number_in, number_at, signed_at, ended, paired, number_bytes, signed_bytes, IsBytes}
 use Rattle.service_records.proofs.Numbers.{bytes_of_number}
 
 -- ---- steps that did not fail
@@ -62,7 +62,7 @@ pub record Takes (bytes front rest : List ℕ) : Type 0 where
 pub Takes-then : (a x b y c : List ℕ) → Takes a x b → Takes b y c → Takes a (x ++ y) c
 Takes-then a x b y c p q = record { parts = p.parts ∙ ap (λ (t : List ℕ). x ++ t) q.parts ∙ sym (append_assoc x y c); rest_fits = q.rest_fits }
 
-IsBytes-drop : (n : ℕ) (bytes : List ℕ) → IsBytes bytes → IsBytes (drop n bytes)
+pub IsBytes-drop : (n : ℕ) (bytes : List ℕ) → IsBytes bytes → IsBytes (drop n bytes)
 IsBytes-drop n bytes h i = rw get_or-drop (h (n + i))
 
 -- ---- numbers
@@ -74,7 +74,7 @@ length_number_bytes n x = length-bytes_low_first 0 n x
 pub length_of_body : (kind : ℕ) (fields tail : List ℕ) → length (number_bytes 4 kind ++ (fields ++ tail)) ≡ 4 + length fields + length tail
 length_of_body kind fields tail = omega (arith, length-append (number_bytes 4 kind) (fields ++ tail), length-append fields tail, length_number_bytes 4 kind)
 
-number_bytes_back : (n : ℕ) (bytes : List ℕ) → n ≤ length bytes → IsBytes bytes → number_bytes n (number_in n bytes) ≡ take n bytes
+pub number_bytes_back : (n : ℕ) (bytes : List ℕ) → n ≤ length bytes → IsBytes bytes → number_bytes n (number_in n bytes) ≡ take n bytes
 unfolding number_bytes number_in
 number_bytes_back n bytes h fits = bytes_of_number n bytes h fits
 
@@ -133,6 +133,19 @@ ended_takes x y bytes e =
     let g = guard_ok (ltb 0 (length bytes)) Malformed (Ok x) y e in
     let none : length bytes ≤ 0 = ltb-false _ _ g.0 in
     (ok_is x y g.1, nil_from_length bytes (omega (arith, none)))
+
+-- ---- pairs
+
+pub paired_takes : {X : Type 0} (x y : X) (bytes : List ℕ) → paired x bytes ≡ Ok y → (x ≡ y) × (length bytes ≤ 1024) × (length bytes % 16 ≡ 0)
+paired_takes x y bytes e =
+    let few = guard_ok (ltb 1024 (length bytes)) Malformed (cond (eqb (length bytes % 16) 0) (Ok x) (Err Malformed)) y e in
+    let even = wanted_ok (eqb (length bytes % 16) 0) Malformed (Ok x) y few.1 in
+    (ok_is x y even.1, ltb-false _ _ few.0, eqb-true _ _ even.0)
+
+pub paired_again : {X : Type 0} (x : X) (bytes : List ℕ) → length bytes ≤ 1024 → length bytes % 16 ≡ 0 → paired x bytes ≡ Ok x
+paired_again x bytes few even =
+    let within : ltb 1024 (length bytes) ≡ false = le-ltb _ _ few in
+    rw (within, even) refl
 
 -- the last of the bytes that were taken
 pub Takes-all : (bytes front rest : List ℕ) → Takes bytes front rest → rest ≡ [] → bytes ≡ front

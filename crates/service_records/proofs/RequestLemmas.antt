@@ -6,9 +6,9 @@ use Rattle.service_records.specs.declared.fault.RecordFault.TheVariants.{Unknown
 use Rattle.service_records.specs.declared.request.Request.{Request}
 use Rattle.service_records.specs.declared.request.Request.TheVariants as requests
 use Rattle.service_records.specs.Gives.{◌>>=◌}
-use Rattle.service_records.specs.Fields.{number_at, ended, number_bytes, IsBytes}
-use Rattle.service_records.specs.Request.{command_in, offer_in, poll_in, mail_in, list_in, value_in, stop_in, reload_in, status_in, request_in, request_of, kind_number, fields_bytes, request_body, IsRequest, IsTail}
-use Rattle.service_records.proofs.FieldLemmas.{bind_ok, step, ok_is, chosen, Takes-then, number_takes, number_again, ended_takes}
+use Rattle.service_records.specs.Fields.{number_at, ended, paired, number_bytes, IsBytes}
+use Rattle.service_records.specs.Request.{command_in, offer_in, poll_in, mail_in, list_in, value_in, stop_in, reload_in, status_in, poll_all_in, publication_positions_in, image_positions_in, request_in, request_of, kind_number, fields_bytes, request_body, IsRequest, IsTail}
+use Rattle.service_records.proofs.FieldLemmas.{bind_ok, step, ok_is, chosen, Takes-then, number_takes, number_again, ended_takes, paired_takes, paired_again}
 
 -- what was read after a kind is what was written, and can be written
 pub record Taken (bytes : List ℕ) (kind : ℕ) (x : Request × List ℕ) : Type 0 where
@@ -175,6 +175,73 @@ status_again : status_in (fields_bytes requests.Status ++ []) ≡ Ok (requests.S
 unfolding fields_bytes
 status_again = refl
 
+poll_all_takes : (bytes : List ℕ) (x : Request × List ℕ) → IsBytes bytes → poll_all_in bytes ≡ Ok x → Taken bytes 10 x
+unfolding kind_number fields_bytes
+poll_all_takes bytes x fits e =
+    elim (bind_ok (number_at 4 bytes) (λ limit. number_at 4 limit.1 >>= λ wait. paired (requests.PollAll limit.0 wait.0, wait.1) wait.1) x e) [
+      | step limit limit_is after_limit ↦
+          let t_limit = number_takes 4 bytes limit fits limit_is in
+          elim (bind_ok (number_at 4 limit.1) (λ wait. paired (requests.PollAll limit.0 wait.0, wait.1) wait.1) x after_limit) [
+            | step wait wait_is after_wait ↦
+                let t_wait = number_takes 4 limit.1 wait t_limit.0.rest_fits wait_is in
+                let made : Request × List ℕ = (requests.PollAll limit.0 wait.0, wait.1) in
+                let w_wait = Takes-then bytes (number_bytes 4 limit.0) limit.1 (number_bytes 4 wait.0) wait.1 t_limit.0 t_wait.0 in
+                let last = paired_takes made x wait.1 after_wait in
+                let found : Taken bytes 10 made = record { kind_is = refl; parts = w_wait.parts; fits = (t_limit.1, t_wait.1); tail = (last.1, last.2) } in
+                subst (λ (y : Request × List ℕ). Taken bytes 10 y) last.0 found
+          ]
+    ]
+
+poll_all_again : (limit : ℕ) (wait : ℕ) (tail : List ℕ) → IsRequest (requests.PollAll limit wait) → IsTail (requests.PollAll limit wait) tail → poll_all_in (fields_bytes (requests.PollAll limit wait) ++ tail) ≡ Ok ((requests.PollAll limit wait), tail)
+unfolding fields_bytes
+poll_all_again limit wait tail fits ok =
+    let regrouped : fields_bytes (requests.PollAll limit wait) ++ tail ≡ number_bytes 4 limit ++ (number_bytes 4 wait ++ tail) = append_assoc (number_bytes 4 limit) (number_bytes 4 wait) (tail) in
+    let made : Request × List ℕ = (requests.PollAll limit wait, tail) in
+    ap poll_all_in regrouped ∙ rw (number_again 4 limit (number_bytes 4 wait ++ tail) fits.0, number_again 4 wait tail fits.1) (paired_again made tail ok.0 ok.1)
+
+publication_positions_takes : (bytes : List ℕ) (x : Request × List ℕ) → IsBytes bytes → publication_positions_in bytes ≡ Ok x → Taken bytes 11 x
+unfolding kind_number fields_bytes
+publication_positions_takes bytes x fits e =
+    elim (bind_ok (number_at 8 bytes) (λ registration. ended (requests.PublicationPositions registration.0, []) registration.1) x e) [
+      | step registration registration_is after_registration ↦
+          let t_registration = number_takes 8 bytes registration fits registration_is in
+          let made : Request × List ℕ = (requests.PublicationPositions registration.0, []) in
+          let last = ended_takes made x registration.1 after_registration in
+          let all : bytes ≡ (number_bytes 8 registration.0) ++ [] = t_registration.0.parts ∙ ap (λ (rest : List ℕ). (number_bytes 8 registration.0) ++ rest) last.1 in
+          let found : Taken bytes 11 made = record { kind_is = refl; parts = all; fits = t_registration.1; tail = refl } in
+          subst (λ (y : Request × List ℕ). Taken bytes 11 y) last.0 found
+    ]
+
+publication_positions_again : (registration : ℕ) → IsRequest (requests.PublicationPositions registration) → publication_positions_in (fields_bytes (requests.PublicationPositions registration) ++ []) ≡ Ok ((requests.PublicationPositions registration), [])
+unfolding fields_bytes
+publication_positions_again registration fits =
+    let regrouped : fields_bytes (requests.PublicationPositions registration) ++ [] ≡ number_bytes 8 registration ++ [] = refl in
+    ap publication_positions_in regrouped ∙ rw (number_again 8 registration ([]) fits) refl
+
+image_positions_takes : (bytes : List ℕ) (x : Request × List ℕ) → IsBytes bytes → image_positions_in bytes ≡ Ok x → Taken bytes 12 x
+unfolding kind_number fields_bytes
+image_positions_takes bytes x fits e =
+    elim (bind_ok (number_at 8 bytes) (λ subscription. number_at 8 subscription.1 >>= λ source. ended (requests.ImagePositions subscription.0 source.0, []) source.1) x e) [
+      | step subscription subscription_is after_subscription ↦
+          let t_subscription = number_takes 8 bytes subscription fits subscription_is in
+          elim (bind_ok (number_at 8 subscription.1) (λ source. ended (requests.ImagePositions subscription.0 source.0, []) source.1) x after_subscription) [
+            | step source source_is after_source ↦
+                let t_source = number_takes 8 subscription.1 source t_subscription.0.rest_fits source_is in
+                let made : Request × List ℕ = (requests.ImagePositions subscription.0 source.0, []) in
+                let w_source = Takes-then bytes (number_bytes 8 subscription.0) subscription.1 (number_bytes 8 source.0) source.1 t_subscription.0 t_source.0 in
+                let last = ended_takes made x source.1 after_source in
+                let all : bytes ≡ ((number_bytes 8 subscription.0) ++ number_bytes 8 source.0) ++ [] = w_source.parts ∙ ap (λ (rest : List ℕ). ((number_bytes 8 subscription.0) ++ number_bytes 8 source.0) ++ rest) last.1 in
+                let found : Taken bytes 12 made = record { kind_is = refl; parts = all; fits = (t_subscription.1, t_source.1); tail = refl } in
+                subst (λ (y : Request × List ℕ). Taken bytes 12 y) last.0 found
+          ]
+    ]
+
+image_positions_again : (subscription : ℕ) (source : ℕ) → IsRequest (requests.ImagePositions subscription source) → image_positions_in (fields_bytes (requests.ImagePositions subscription source) ++ []) ≡ Ok ((requests.ImagePositions subscription source), [])
+unfolding fields_bytes
+image_positions_again subscription source fits =
+    let regrouped : fields_bytes (requests.ImagePositions subscription source) ++ [] ≡ number_bytes 8 subscription ++ (number_bytes 8 source ++ []) = append_assoc (number_bytes 8 subscription) (number_bytes 8 source) ([]) in
+    ap image_positions_in regrouped ∙ rw (number_again 8 subscription (number_bytes 8 source ++ []) fits.0, number_again 8 source ([]) fits.1) refl
+
 -- ---- the kind
 
 abbrev none : Result (Request × List ℕ) RecordFault
@@ -186,34 +253,46 @@ unknown_is_none x e = cc
 kind_takes : (kind : ℕ) (bytes : List ℕ) (x : Request × List ℕ) → IsBytes bytes → request_in kind bytes ≡ Ok x → Taken bytes kind x
 unfolding request_in
 kind_takes kind bytes x fits e =
-    elim (chosen (eqb kind 1) (command_in bytes) (cond (eqb kind 2) (offer_in bytes) (cond (eqb kind 3) (poll_in bytes) (cond (eqb kind 4) (mail_in bytes) (cond (eqb kind 5) (list_in bytes) (cond (eqb kind 6) (value_in bytes) (cond (eqb kind 7) (stop_in bytes) (cond (eqb kind 8) (reload_in bytes) (cond (eqb kind 9) (status_in bytes) (Err Unknown))))))))) x e) [
+    elim (chosen (eqb kind 1) (command_in bytes) (cond (eqb kind 2) (offer_in bytes) (cond (eqb kind 3) (poll_in bytes) (cond (eqb kind 4) (mail_in bytes) (cond (eqb kind 5) (list_in bytes) (cond (eqb kind 6) (value_in bytes) (cond (eqb kind 7) (stop_in bytes) (cond (eqb kind 8) (reload_in bytes) (cond (eqb kind 9) (status_in bytes) (cond (eqb kind 10) (poll_all_in bytes) (cond (eqb kind 11) (publication_positions_in bytes) (cond (eqb kind 12) (image_positions_in bytes) (Err Unknown)))))))))))) x e) [
       | inl here ↦ subst (λ (k : ℕ). Taken bytes k x) (sym (eqb-true kind 1 here.0)) (command_takes bytes x fits here.1)
       | inr later0 ↦
-          elim (chosen (eqb kind 2) (offer_in bytes) (cond (eqb kind 3) (poll_in bytes) (cond (eqb kind 4) (mail_in bytes) (cond (eqb kind 5) (list_in bytes) (cond (eqb kind 6) (value_in bytes) (cond (eqb kind 7) (stop_in bytes) (cond (eqb kind 8) (reload_in bytes) (cond (eqb kind 9) (status_in bytes) (Err Unknown)))))))) x later0.1) [
+          elim (chosen (eqb kind 2) (offer_in bytes) (cond (eqb kind 3) (poll_in bytes) (cond (eqb kind 4) (mail_in bytes) (cond (eqb kind 5) (list_in bytes) (cond (eqb kind 6) (value_in bytes) (cond (eqb kind 7) (stop_in bytes) (cond (eqb kind 8) (reload_in bytes) (cond (eqb kind 9) (status_in bytes) (cond (eqb kind 10) (poll_all_in bytes) (cond (eqb kind 11) (publication_positions_in bytes) (cond (eqb kind 12) (image_positions_in bytes) (Err Unknown))))))))))) x later0.1) [
             | inl here ↦ subst (λ (k : ℕ). Taken bytes k x) (sym (eqb-true kind 2 here.0)) (offer_takes bytes x fits here.1)
             | inr later1 ↦
-                elim (chosen (eqb kind 3) (poll_in bytes) (cond (eqb kind 4) (mail_in bytes) (cond (eqb kind 5) (list_in bytes) (cond (eqb kind 6) (value_in bytes) (cond (eqb kind 7) (stop_in bytes) (cond (eqb kind 8) (reload_in bytes) (cond (eqb kind 9) (status_in bytes) (Err Unknown))))))) x later1.1) [
+                elim (chosen (eqb kind 3) (poll_in bytes) (cond (eqb kind 4) (mail_in bytes) (cond (eqb kind 5) (list_in bytes) (cond (eqb kind 6) (value_in bytes) (cond (eqb kind 7) (stop_in bytes) (cond (eqb kind 8) (reload_in bytes) (cond (eqb kind 9) (status_in bytes) (cond (eqb kind 10) (poll_all_in bytes) (cond (eqb kind 11) (publication_positions_in bytes) (cond (eqb kind 12) (image_positions_in bytes) (Err Unknown)))))))))) x later1.1) [
                   | inl here ↦ subst (λ (k : ℕ). Taken bytes k x) (sym (eqb-true kind 3 here.0)) (poll_takes bytes x fits here.1)
                   | inr later2 ↦
-                      elim (chosen (eqb kind 4) (mail_in bytes) (cond (eqb kind 5) (list_in bytes) (cond (eqb kind 6) (value_in bytes) (cond (eqb kind 7) (stop_in bytes) (cond (eqb kind 8) (reload_in bytes) (cond (eqb kind 9) (status_in bytes) (Err Unknown)))))) x later2.1) [
+                      elim (chosen (eqb kind 4) (mail_in bytes) (cond (eqb kind 5) (list_in bytes) (cond (eqb kind 6) (value_in bytes) (cond (eqb kind 7) (stop_in bytes) (cond (eqb kind 8) (reload_in bytes) (cond (eqb kind 9) (status_in bytes) (cond (eqb kind 10) (poll_all_in bytes) (cond (eqb kind 11) (publication_positions_in bytes) (cond (eqb kind 12) (image_positions_in bytes) (Err Unknown))))))))) x later2.1) [
                         | inl here ↦ subst (λ (k : ℕ). Taken bytes k x) (sym (eqb-true kind 4 here.0)) (mail_takes bytes x fits here.1)
                         | inr later3 ↦
-                            elim (chosen (eqb kind 5) (list_in bytes) (cond (eqb kind 6) (value_in bytes) (cond (eqb kind 7) (stop_in bytes) (cond (eqb kind 8) (reload_in bytes) (cond (eqb kind 9) (status_in bytes) (Err Unknown))))) x later3.1) [
+                            elim (chosen (eqb kind 5) (list_in bytes) (cond (eqb kind 6) (value_in bytes) (cond (eqb kind 7) (stop_in bytes) (cond (eqb kind 8) (reload_in bytes) (cond (eqb kind 9) (status_in bytes) (cond (eqb kind 10) (poll_all_in bytes) (cond (eqb kind 11) (publication_positions_in bytes) (cond (eqb kind 12) (image_positions_in bytes) (Err Unknown)))))))) x later3.1) [
                               | inl here ↦ subst (λ (k : ℕ). Taken bytes k x) (sym (eqb-true kind 5 here.0)) (list_takes bytes x fits here.1)
                               | inr later4 ↦
-                                  elim (chosen (eqb kind 6) (value_in bytes) (cond (eqb kind 7) (stop_in bytes) (cond (eqb kind 8) (reload_in bytes) (cond (eqb kind 9) (status_in bytes) (Err Unknown)))) x later4.1) [
+                                  elim (chosen (eqb kind 6) (value_in bytes) (cond (eqb kind 7) (stop_in bytes) (cond (eqb kind 8) (reload_in bytes) (cond (eqb kind 9) (status_in bytes) (cond (eqb kind 10) (poll_all_in bytes) (cond (eqb kind 11) (publication_positions_in bytes) (cond (eqb kind 12) (image_positions_in bytes) (Err Unknown))))))) x later4.1) [
                                     | inl here ↦ subst (λ (k : ℕ). Taken bytes k x) (sym (eqb-true kind 6 here.0)) (value_takes bytes x fits here.1)
                                     | inr later5 ↦
-                                        elim (chosen (eqb kind 7) (stop_in bytes) (cond (eqb kind 8) (reload_in bytes) (cond (eqb kind 9) (status_in bytes) (Err Unknown))) x later5.1) [
+                                        elim (chosen (eqb kind 7) (stop_in bytes) (cond (eqb kind 8) (reload_in bytes) (cond (eqb kind 9) (status_in bytes) (cond (eqb kind 10) (poll_all_in bytes) (cond (eqb kind 11) (publication_positions_in bytes) (cond (eqb kind 12) (image_positions_in bytes) (Err Unknown)))))) x later5.1) [
                                           | inl here ↦ subst (λ (k : ℕ). Taken bytes k x) (sym (eqb-true kind 7 here.0)) (stop_takes bytes x fits here.1)
                                           | inr later6 ↦
-                                              elim (chosen (eqb kind 8) (reload_in bytes) (cond (eqb kind 9) (status_in bytes) (Err Unknown)) x later6.1) [
+                                              elim (chosen (eqb kind 8) (reload_in bytes) (cond (eqb kind 9) (status_in bytes) (cond (eqb kind 10) (poll_all_in bytes) (cond (eqb kind 11) (publication_positions_in bytes) (cond (eqb kind 12) (image_positions_in bytes) (Err Unknown))))) x later6.1) [
                                                 | inl here ↦ subst (λ (k : ℕ). Taken bytes k x) (sym (eqb-true kind 8 here.0)) (reload_takes bytes x fits here.1)
                                                 | inr later7 ↦
-                                                    elim (chosen (eqb kind 9) (status_in bytes) (Err Unknown) x later7.1) [
+                                                    elim (chosen (eqb kind 9) (status_in bytes) (cond (eqb kind 10) (poll_all_in bytes) (cond (eqb kind 11) (publication_positions_in bytes) (cond (eqb kind 12) (image_positions_in bytes) (Err Unknown)))) x later7.1) [
                                                       | inl here ↦ subst (λ (k : ℕ). Taken bytes k x) (sym (eqb-true kind 9 here.0)) (status_takes bytes x fits here.1)
                                                       | inr later8 ↦
-                                                          absurd (unknown_is_none x later8.1)
+                                                          elim (chosen (eqb kind 10) (poll_all_in bytes) (cond (eqb kind 11) (publication_positions_in bytes) (cond (eqb kind 12) (image_positions_in bytes) (Err Unknown))) x later8.1) [
+                                                            | inl here ↦ subst (λ (k : ℕ). Taken bytes k x) (sym (eqb-true kind 10 here.0)) (poll_all_takes bytes x fits here.1)
+                                                            | inr later9 ↦
+                                                                elim (chosen (eqb kind 11) (publication_positions_in bytes) (cond (eqb kind 12) (image_positions_in bytes) (Err Unknown)) x later9.1) [
+                                                                  | inl here ↦ subst (λ (k : ℕ). Taken bytes k x) (sym (eqb-true kind 11 here.0)) (publication_positions_takes bytes x fits here.1)
+                                                                  | inr later10 ↦
+                                                                      elim (chosen (eqb kind 12) (image_positions_in bytes) (Err Unknown) x later10.1) [
+                                                                        | inl here ↦ subst (λ (k : ℕ). Taken bytes k x) (sym (eqb-true kind 12 here.0)) (image_positions_takes bytes x fits here.1)
+                                                                        | inr later11 ↦
+                                                                            absurd (unknown_is_none x later11.1)
+                                                                      ]
+                                                                ]
+                                                          ]
                                                     ]
                                               ]
                                         ]
@@ -235,6 +314,9 @@ kind_again (requests.Value number) tail fits ok = rw ok (value_again number fits
 kind_again requests.Stop tail fits ok = rw ok (stop_again)
 kind_again requests.Reload tail fits ok = rw ok (reload_again)
 kind_again requests.Status tail fits ok = rw ok (status_again)
+kind_again (requests.PollAll limit wait) tail fits ok = poll_all_again limit wait tail fits ok
+kind_again (requests.PublicationPositions registration) tail fits ok = rw ok (publication_positions_again registration fits)
+kind_again (requests.ImagePositions subscription source) tail fits ok = rw ok (image_positions_again subscription source fits)
 
 kind_fits : (x : Request) → kind_number x < 256 ^ 4
 unfolding kind_number
@@ -247,6 +329,9 @@ kind_fits (requests.Value number) = omega arith
 kind_fits requests.Stop = omega arith
 kind_fits requests.Reload = omega arith
 kind_fits requests.Status = omega arith
+kind_fits (requests.PollAll limit wait) = omega arith
+kind_fits (requests.PublicationPositions registration) = omega arith
+kind_fits (requests.ImagePositions subscription source) = omega arith
 
 -- ---- the whole
 

@@ -63,6 +63,32 @@ bye_in bytes = do
 abbrev pub line_in : List ℕ → Result (Answer × List ℕ) RecordFault
 line_in bytes = Ok (answers.Line, bytes)
 
+abbrev pub part_in : List ℕ → Result (Answer × List ℕ) RecordFault
+part_in bytes = do
+  place ← number_at 4 bytes
+  ended (answers.Part place.0, []) place.1
+
+abbrev pub part_refused_in : List ℕ → Result (Answer × List ℕ) RecordFault
+part_refused_in bytes = do
+  code ← signed_at w32 4 bytes
+  Ok (answers.PartRefused code.0, code.1)
+
+abbrev pub publication_positions_in : List ℕ → Result (Answer × List ℕ) RecordFault
+publication_positions_in bytes = do
+  position ← number_at 8 bytes
+  limit ← number_at 8 position.1
+  sent ← number_at 8 limit.1
+  consumed ← number_at 8 sent.1
+  flags ← number_at 4 consumed.1
+  ended (answers.PublicationPositions position.0 limit.0 sent.0 consumed.0 flags.0, []) flags.1
+
+abbrev pub image_positions_in : List ℕ → Result (Answer × List ℕ) RecordFault
+image_positions_in bytes = do
+  joined ← number_at 8 bytes
+  position ← number_at 8 joined.1
+  received ← number_at 8 position.1
+  ended (answers.ImagePositions joined.0 position.0 received.0, []) received.1
+
 -- what follows a kind
 unfoldable pub answer_in : ℕ → List ℕ → Result (Answer × List ℕ) RecordFault
 answer_in kind bytes =
@@ -76,7 +102,11 @@ answer_in kind bytes =
     else (if kind == 264 then value_in bytes
     else (if kind == 265 then bye_in bytes
     else (if kind == 266 then line_in bytes
-    else Err Unknown)))))))))
+    else (if kind == 267 then part_in bytes
+    else (if kind == 268 then part_refused_in bytes
+    else (if kind == 269 then publication_positions_in bytes
+    else (if kind == 270 then image_positions_in bytes
+    else Err Unknown)))))))))))))
 
 -- a record, and its tail: whatever follows a kind that is not known, the record is unknown
 unfoldable pub answer_of : List ℕ → Result (Answer × List ℕ) RecordFault
@@ -93,6 +123,10 @@ kind_number (answers.Row number type_id value) = 263
 kind_number (answers.Value value) = 264
 kind_number (answers.Bye code) = 265
 kind_number answers.Line = 266
+kind_number (answers.Part place) = 267
+kind_number (answers.PartRefused code) = 268
+kind_number (answers.PublicationPositions position limit sent consumed flags) = 269
+kind_number (answers.ImagePositions joined position received) = 270
 
 unfoldable pub fields_bytes : Answer → List ℕ
 fields_bytes (answers.Welcome version principal client liveness) = number_bytes 4 version ++ number_bytes 4 principal ++ number_bytes 8 client ++ number_bytes 8 liveness
@@ -105,6 +139,10 @@ fields_bytes (answers.Row number type_id value) = number_bytes 8 number ++ signe
 fields_bytes (answers.Value value) = signed_bytes w64 8 value
 fields_bytes (answers.Bye code) = signed_bytes w32 4 code
 fields_bytes answers.Line = []
+fields_bytes (answers.Part place) = number_bytes 4 place
+fields_bytes (answers.PartRefused code) = signed_bytes w32 4 code
+fields_bytes (answers.PublicationPositions position limit sent consumed flags) = number_bytes 8 position ++ number_bytes 8 limit ++ number_bytes 8 sent ++ number_bytes 8 consumed ++ number_bytes 4 flags
+fields_bytes (answers.ImagePositions joined position received) = number_bytes 8 joined ++ number_bytes 8 position ++ number_bytes 8 received
 
 -- a record without its length
 unfoldable pub answer_body : Answer → List ℕ → List ℕ
@@ -126,6 +164,10 @@ IsAnswer (answers.Row number type_id value) = (number < 2 ^ 64) × (FitsSigned w
 IsAnswer (answers.Value value) = (FitsSigned w64 value)
 IsAnswer (answers.Bye code) = (FitsSigned w32 code)
 IsAnswer answers.Line = Unit {0}
+IsAnswer (answers.Part place) = (place < 2 ^ 32)
+IsAnswer (answers.PartRefused code) = (FitsSigned w32 code)
+IsAnswer (answers.PublicationPositions position limit sent consumed flags) = (position < 2 ^ 64) × (limit < 2 ^ 64) × (sent < 2 ^ 64) × (consumed < 2 ^ 64) × (flags < 2 ^ 32)
+IsAnswer (answers.ImagePositions joined position received) = (joined < 2 ^ 64) × (position < 2 ^ 64) × (received < 2 ^ 64)
 
 -- and a tail stands only where the kind has one
 abbrev pub IsTail : Answer → List ℕ → Type 0
@@ -139,3 +181,7 @@ IsTail (answers.Row number type_id value) tail = Unit {0}
 IsTail (answers.Value value) tail = tail ≡ []
 IsTail (answers.Bye code) tail = Unit {0}
 IsTail answers.Line tail = Unit {0}
+IsTail (answers.Part place) tail = tail ≡ []
+IsTail (answers.PartRefused code) tail = Unit {0}
+IsTail (answers.PublicationPositions position limit sent consumed flags) tail = tail ≡ []
+IsTail (answers.ImagePositions joined position received) tail = tail ≡ []

@@ -1,6 +1,6 @@
 -- The fields of records: numbers with the lowest byte first.
 -- (The layouts are this project's own.)
-use Rattle.std.specs.Prelude.{ℕ, ℤ, ◌<◌, nat_lt, if◌then◌else◌, List, length, drop, slice_index, Result, Ok, Err}
+use Rattle.std.specs.Prelude.{ℕ, ℤ, ◌<◌, ◌%◌, ◌==◌, nat_lt, if◌then◌else◌, List, length, drop, slice_index, Result, Ok, Err}
 use Rattle.std.specs.Int.{Width, cast_signed, cast_unsigned}
 use Rattle.byteorder.specs.Endian.{little_bytes, little_number}
 use Rattle.service_records.specs.declared.fault.RecordFault.{RecordFault}
@@ -24,6 +24,10 @@ signed_at w n bytes = number_at n bytes >>= λ x. Ok (cast_signed w x.0, x.1)
 -- no bytes stand after the last field
 abbrev pub ended : {X : Type 0} → X → List ℕ → Result X RecordFault
 ended x bytes = if nat_lt 0 (length bytes) then Err Malformed else Ok x
+
+-- the rest is pairs of two numbers of eight bytes each, 64 of them at most
+abbrev pub paired : {X : Type 0} → X → List ℕ → Result X RecordFault
+paired x bytes = if nat_lt 1024 (length bytes) then Err Malformed else (if length bytes % 16 == 0 then Ok x else Err Malformed)
 
 -- ---- what is written
 

@@ -28,3 +28,9 @@ abbrev pub IsCut : Result (Option Cut) RecordFault → Result (Option (List ℕ 
 IsCut (Ok None) read = read ≡ Ok None
 IsCut (Ok (Some cut)) read = read ≡ Ok (Some (cut.record.now, cut.rest.now))
 IsCut (Err fault) read = read ≡ Err fault
+
+-- what was cut is the front, and what follows it is the rest
+abbrev pub IsFront : Result (Option Cut) RecordFault → List ℕ → Type 0
+IsFront (Ok None) bytes = Unit {0}
+IsFront (Ok (Some cut)) bytes = bytes ≡ framed cut.record.now ++ cut.rest.now
+IsFront (Err fault) bytes = Unit {0}

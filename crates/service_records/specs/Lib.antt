@@ -3,3 +3,4 @@ pub mod Fields
 pub mod Framing
 pub mod Request
 pub mod Answer
+pub mod Pairs

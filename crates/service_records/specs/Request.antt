@@ -1,11 +1,11 @@
 -- The requests of a client. (The layout is this project's own.)
-use Rattle.std.specs.Prelude.{ℕ, ◌<◌, ◌^◌, ◌==◌, ◌≡◌, if◌then◌else◌, List, [], ◌++◌, Result, Ok, Err}
+use Rattle.std.specs.Prelude.{ℕ, ◌<◌, ◌≤◌, ◌%◌, ◌^◌, ◌==◌, ◌≡◌, if◌then◌else◌, List, [], ◌++◌, length, Result, Ok, Err}
 use Rattle.service_records.specs.declared.fault.RecordFault.{RecordFault}
 use Rattle.service_records.specs.declared.fault.RecordFault.TheVariants.{Unknown}
 use Rattle.service_records.specs.declared.request.Request.{Request}
 use Rattle.service_records.specs.declared.request.Request.TheVariants as requests
 use Rattle.service_records.specs.Gives.{◌>>=◌}
-use Rattle.service_records.specs.Fields.{number_at, ended, number_bytes}
+use Rattle.service_records.specs.Fields.{number_at, ended, paired, number_bytes}
 use Rattle.service_records.specs.Framing.{framed}
 
 abbrev pub command_in : List ℕ → Result (Request × List ℕ) RecordFault
@@ -48,6 +48,23 @@ reload_in bytes = ended (requests.Reload, []) bytes
 abbrev pub status_in : List ℕ → Result (Request × List ℕ) RecordFault
 status_in bytes = ended (requests.Status, []) bytes
 
+abbrev pub poll_all_in : List ℕ → Result (Request × List ℕ) RecordFault
+poll_all_in bytes = do
+  limit ← number_at 4 bytes
+  wait ← number_at 4 limit.1
+  paired (requests.PollAll limit.0 wait.0, wait.1) wait.1
+
+abbrev pub publication_positions_in : List ℕ → Result (Request × List ℕ) RecordFault
+publication_positions_in bytes = do
+  registration ← number_at 8 bytes
+  ended (requests.PublicationPositions registration.0, []) registration.1
+
+abbrev pub image_positions_in : List ℕ → Result (Request × List ℕ) RecordFault
+image_positions_in bytes = do
+  subscription ← number_at 8 bytes
+  source ← number_at 8 subscription.1
+  ended (requests.ImagePositions subscription.0 source.0, []) source.1
+
 -- what follows a kind
 unfoldable pub request_in : ℕ → List ℕ → Result (Request × List ℕ) RecordFault
 request_in kind bytes =
@@ -60,7 +77,10 @@ request_in kind bytes =
     else (if kind == 7 then stop_in bytes
     else (if kind == 8 then reload_in bytes
     else (if kind == 9 then status_in bytes
-    else Err Unknown))))))))
+    else (if kind == 10 then poll_all_in bytes
+    else (if kind == 11 then publication_positions_in bytes
+    else (if kind == 12 then image_positions_in bytes
+    else Err Unknown)))))))))))
 
 -- a record, and its tail: whatever follows a kind that is not known, the record is unknown
 unfoldable pub request_of : List ℕ → Result (Request × List ℕ) RecordFault
@@ -76,6 +96,9 @@ kind_number (requests.Value number) = 6
 kind_number requests.Stop = 7
 kind_number requests.Reload = 8
 kind_number requests.Status = 9
+kind_number (requests.PollAll limit wait) = 10
+kind_number (requests.PublicationPositions registration) = 11
+kind_number (requests.ImagePositions subscription source) = 12
 
 unfoldable pub fields_bytes : Request → List ℕ
 fields_bytes requests.Command = []
@@ -87,6 +110,9 @@ fields_bytes (requests.Value number) = number_bytes 8 number
 fields_bytes requests.Stop = []
 fields_bytes requests.Reload = []
 fields_bytes requests.Status = []
+fields_bytes (requests.PollAll limit wait) = number_bytes 4 limit ++ number_bytes 4 wait
+fields_bytes (requests.PublicationPositions registration) = number_bytes 8 registration
+fields_bytes (requests.ImagePositions subscription source) = number_bytes 8 subscription ++ number_bytes 8 source
 
 -- a record without its length
 unfoldable pub request_body : Request → List ℕ → List ℕ
@@ -107,6 +133,9 @@ IsRequest (requests.Value number) = (number < 2 ^ 64)
 IsRequest requests.Stop = Unit {0}
 IsRequest requests.Reload = Unit {0}
 IsRequest requests.Status = Unit {0}
+IsRequest (requests.PollAll limit wait) = (limit < 2 ^ 32) × (wait < 2 ^ 32)
+IsRequest (requests.PublicationPositions registration) = (registration < 2 ^ 64)
+IsRequest (requests.ImagePositions subscription source) = (subscription < 2 ^ 64) × (source < 2 ^ 64)
 
 -- and a tail stands only where the kind has one
 abbrev pub IsTail : Request → List ℕ → Type 0
@@ -119,3 +148,6 @@ IsTail (requests.Value number) tail = tail ≡ []
 IsTail requests.Stop tail = tail ≡ []
 IsTail requests.Reload tail = tail ≡ []
 IsTail requests.Status tail = tail ≡ []
+IsTail (requests.PollAll limit wait) tail = (length tail ≤ 1024) × (length tail % 16 ≡ 0)
+IsTail (requests.PublicationPositions registration) tail = tail ≡ []
+IsTail (requests.ImagePositions subscription source) tail = tail ≡ []

@@ -1,7 +1,7 @@
 //! The answers of the driver.
 
 ghost use Rattle.service_records.specs.Gives.{Equals};
-ghost use Rattle.service_records.specs.Answer.{answer_body, answer_bytes, answer_in, answer_of, bye_in, done_in, fields_bytes, fragment_in, kind_number, line_in, refused_in, reply_in, row_in, taken_in, value_in, welcome_in};
+ghost use Rattle.service_records.specs.Answer.{answer_body, answer_bytes, answer_in, answer_of, bye_in, done_in, fields_bytes, fragment_in, image_positions_in, kind_number, line_in, part_in, part_refused_in, publication_positions_in, refused_in, reply_in, row_in, taken_in, value_in, welcome_in};
 ghost use Rattle.std.specs.Prelude.{◌≡◌, ◌≤◌, ◌++◌, length, OnOk};
 
 use crate::fault::RecordFault;
@@ -56,6 +56,31 @@ pub enum Answer {
     },
     /// A line of text, which is the tail.
     Line,
+    /// Of several logs, that in this place, from 0 on, gave what follows.
+    Part {
+        place: u32,
+    },
+    /// The log of the last such place is refused. The tail says why, in words.
+    PartRefused {
+        code: i32,
+    },
+    /// How far a publication has come: the position after its last frame, the one from which on no offer is taken, the one up to
+    /// which frames were sent, and the least up to which the receivers have taken them that are heard. Of `flags` 1 says that
+    /// somebody takes what is offered, and 2 that a receiver is heard.
+    PublicationPositions {
+        position: u64,
+        limit: u64,
+        sent: u64,
+        consumed: u64,
+        flags: u32,
+    },
+    /// How far a subscription has come with a log: the position at which the stream is joined, the one up to which it was read,
+    /// and the one up to which it is there without a gap.
+    ImagePositions {
+        joined: u64,
+        position: u64,
+        received: u64,
+    },
 }
 
 fn welcome(bytes: &[u8]) -> Result<(Answer, &[u8]), RecordFault>
@@ -152,6 +177,59 @@ fn line(bytes: &[u8]) -> Result<(Answer, &[u8]), RecordFault>
     Ok((Answer::Line, bytes))
 }
 
+fn part(bytes: &[u8]) -> Result<(Answer, &[u8]), RecordFault>
+    ensures { Equals (λ x. (x.0, x.1.now)) result (part_in bytes.now) }
+{
+    let (place, rest) = fields::u32_at(bytes)?;
+    fields::end(rest)?;
+    Ok((Answer::Part { place }, &[]))
+}
+
+fn part_refused(bytes: &[u8]) -> Result<(Answer, &[u8]), RecordFault>
+    ensures { Equals (λ x. (x.0, x.1.now)) result (part_refused_in bytes.now) }
+{
+    let (code, rest) = fields::i32_at(bytes)?;
+    Ok((Answer::PartRefused { code }, rest))
+}
+
+fn publication_positions(bytes: &[u8]) -> Result<(Answer, &[u8]), RecordFault>
+    ensures { Equals (λ x. (x.0, x.1.now)) result (publication_positions_in bytes.now) }
+{
+    let (position, rest) = fields::u64_at(bytes)?;
+    let (limit, rest) = fields::u64_at(rest)?;
+    let (sent, rest) = fields::u64_at(rest)?;
+    let (consumed, rest) = fields::u64_at(rest)?;
+    let (flags, rest) = fields::u32_at(rest)?;
+    fields::end(rest)?;
+    Ok((
+        Answer::PublicationPositions {
+            position,
+            limit,
+            sent,
+            consumed,
+            flags,
+        },
+        &[],
+    ))
+}
+
+fn image_positions(bytes: &[u8]) -> Result<(Answer, &[u8]), RecordFault>
+    ensures { Equals (λ x. (x.0, x.1.now)) result (image_positions_in bytes.now) }
+{
+    let (joined, rest) = fields::u64_at(bytes)?;
+    let (position, rest) = fields::u64_at(rest)?;
+    let (received, rest) = fields::u64_at(rest)?;
+    fields::end(rest)?;
+    Ok((
+        Answer::ImagePositions {
+            joined,
+            position,
+            received,
+        },
+        &[],
+    ))
+}
+
 #[tactic(auto, unfolding(crate::specs::Answer::answer_in))]
 fn read_fields(kind: u32, bytes: &[u8]) -> Result<(Answer, &[u8]), RecordFault>
     ensures { Equals (λ x. (x.0, x.1.now)) result (answer_in kind bytes.now) }
@@ -167,6 +245,10 @@ fn read_fields(kind: u32, bytes: &[u8]) -> Result<(Answer, &[u8]), RecordFault>
         0x108 => value(bytes),
         0x109 => bye(bytes),
         0x10a => line(bytes),
+        0x10b => part(bytes),
+        0x10c => part_refused(bytes),
+        0x10d => publication_positions(bytes),
+        0x10e => image_positions(bytes),
         _ => Err(RecordFault::Unknown),
     }
 }
@@ -199,6 +281,10 @@ impl Answer {
             Answer::Value { .. } => 0x108,
             Answer::Bye { .. } => 0x109,
             Answer::Line => 0x10a,
+            Answer::Part { .. } => 0x10b,
+            Answer::PartRefused { .. } => 0x10c,
+            Answer::PublicationPositions { .. } => 0x10d,
+            Answer::ImagePositions { .. } => 0x10e,
         }
     }
 
@@ -238,13 +324,37 @@ impl Answer {
             Answer::Value { value } => { fields::put_i64(out, *value) }
             Answer::Bye { code } => { fields::put_i32(out, *code) }
             Answer::Line => Ok(()),
+            Answer::Part { place } => { fields::put_u32(out, *place) }
+            Answer::PartRefused { code } => { fields::put_i32(out, *code) }
+            Answer::PublicationPositions {
+                position,
+                limit,
+                sent,
+                consumed,
+                flags,
+            } => {
+                fields::put_u64(out, *position)?;
+                fields::put_u64(out, *limit)?;
+                fields::put_u64(out, *sent)?;
+                fields::put_u64(out, *consumed)?;
+                fields::put_u32(out, *flags)
+            }
+            Answer::ImagePositions {
+                joined,
+                position,
+                received,
+            } => {
+                fields::put_u64(out, *joined)?;
+                fields::put_u64(out, *position)?;
+                fields::put_u64(out, *received)
+            }
         }
     }
 
     #[tactic(auto, unfolding(crate::specs::Answer::fields_bytes, crate::specs::Fields::number_bytes))]
     fn size(&self) -> usize
         ensures is { result ≡ length (fields_bytes self.now) }
-        ensures few { result ≤ 24 }
+        ensures few { result ≤ 36 }
     {
         match self {
             Answer::Welcome { .. } => 24,
@@ -257,6 +367,10 @@ impl Answer {
             Answer::Value { .. } => 8,
             Answer::Bye { .. } => 4,
             Answer::Line => 0,
+            Answer::Part { .. } => 4,
+            Answer::PartRefused { .. } => 4,
+            Answer::PublicationPositions { .. } => 36,
+            Answer::ImagePositions { .. } => 24,
         }
     }
 

@@ -3,7 +3,7 @@
 ghost use Rattle.std.specs.Prelude.{◌≡◌, ◌≤◌, ◌++◌, length, OnOk};
 ghost use Rattle.std.specs.Int.{w32, w64};
 ghost use Rattle.service_records.specs.Gives.{Equals};
-ghost use Rattle.service_records.specs.Fields.{ended, number_at, number_bytes, number_in, signed_at, signed_bytes};
+ghost use Rattle.service_records.specs.Fields.{ended, number_at, number_bytes, number_in, paired, signed_at, signed_bytes};
 
 use crate::fault::RecordFault;
 use byteorder::{ByteOrder, LittleEndian};
@@ -62,6 +62,20 @@ pub fn end(bytes: &[u8]) -> Result<(), RecordFault>
     ensures { Equals (λ x. x) result (ended record {} bytes.now) }
 {
     if bytes.is_empty() {
+        Ok(())
+    } else {
+        Err(RecordFault::Malformed)
+    }
+}
+
+/// Refuses bytes that are no pairs of two numbers of 64 bits each, or more than 64 pairs.
+pub fn pairs(bytes: &[u8]) -> Result<(), RecordFault>
+    ensures { Equals (λ x. x) result (paired record {} bytes.now) }
+{
+    if bytes.len() > 1_024 {
+        return Err(RecordFault::Malformed);
+    }
+    if bytes.len() % 16 == 0 {
         Ok(())
     } else {
         Err(RecordFault::Malformed)

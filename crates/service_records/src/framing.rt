@@ -1,6 +1,6 @@
 //! Records in a stream of bytes.
 
-ghost use Rattle.service_records.specs.Framing.{IsCut, cut_of};
+ghost use Rattle.service_records.specs.Framing.{IsCut, IsFront, cut_of};
 
 use crate::fault::RecordFault;
 use crate::fields;
@@ -17,12 +17,8 @@ pub struct Cut<'a> {
     pub rest: &'a [u8],
 }
 
-/// The first record of a stream; `None` where not all of it is there yet.
-///
-/// # Errors
-/// `TooLong` where its length says that it is longer than a record may be.
 #[tactic(auto, unfolding(crate::specs::Framing::cut_of))]
-pub fn first_record(bytes: &[u8]) -> Result<Option<Cut<'_>>, RecordFault>
+fn cut_first(bytes: &[u8]) -> Result<Option<Cut<'_>>, RecordFault>
     ensures { IsCut result (cut_of bytes.now) }
 {
     if bytes.len() < 4 {
@@ -38,4 +34,15 @@ pub fn first_record(bytes: &[u8]) -> Result<Option<Cut<'_>>, RecordFault>
     }
     let (record, rest) = rest.split_at(size);
     Ok(Some(Cut { record, rest }))
+}
+
+/// The first record of a stream; `None` where not all of it is there yet.
+///
+/// # Errors
+/// `TooLong` where its length says that it is longer than a record may be.
+pub fn first_record(bytes: &[u8]) -> Result<Option<Cut<'_>>, RecordFault>
+    ensures cut { IsCut result (cut_of bytes.now) }
+    ensures front { IsFront result bytes.now }
+{
+    cut_first(bytes)
 }

@@ -9,13 +9,15 @@ mod fault;
 mod fields;
 mod framing;
 mod laws;
+mod pairs;
 mod request;
 
 pub use answer::Answer;
 pub use fault::RecordFault;
 pub use framing::{Cut, LONGEST, first_record};
 pub use laws::{
-    answers_read_back, answers_write_back, records_are_cut_again, requests_read_back,
-    requests_write_back,
+    answers_read_back, answers_write_back, pairs_read_back, pairs_write_back,
+    records_are_cut_again, requests_read_back, requests_write_back,
 };
+pub use pairs::{FirstPair, Pair, first_pair};
 pub use request::Request;

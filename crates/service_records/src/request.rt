@@ -1,7 +1,7 @@
 //! The requests of a client.
 
 ghost use Rattle.service_records.specs.Gives.{Equals};
-ghost use Rattle.service_records.specs.Request.{command_in, fields_bytes, kind_number, list_in, mail_in, offer_in, poll_in, reload_in, request_body, request_bytes, request_in, request_of, status_in, stop_in, value_in};
+ghost use Rattle.service_records.specs.Request.{command_in, fields_bytes, image_positions_in, kind_number, list_in, mail_in, offer_in, poll_all_in, poll_in, publication_positions_in, reload_in, request_body, request_bytes, request_in, request_of, status_in, stop_in, value_in};
 ghost use Rattle.std.specs.Prelude.{◌≡◌, ◌≤◌, ◌++◌, length, OnOk};
 
 use crate::fault::RecordFault;
@@ -43,6 +43,20 @@ pub enum Request {
     Reload,
     /// Of an operator: a line for each connection.
     Status,
+    /// Up to so many fragments of each of the logs whose pairs are the tail, or none after so many milliseconds.
+    PollAll {
+        limit: u32,
+        wait: u32,
+    },
+    /// How far a publication of the client's has come.
+    PublicationPositions {
+        registration: u64,
+    },
+    /// How far a subscription of the client's has come with a log.
+    ImagePositions {
+        subscription: u64,
+        source: u64,
+    },
 }
 
 fn command(bytes: &[u8]) -> Result<(Request, &[u8]), RecordFault>
@@ -130,6 +144,38 @@ fn status(bytes: &[u8]) -> Result<(Request, &[u8]), RecordFault>
     Ok((Request::Status, &[]))
 }
 
+fn poll_all(bytes: &[u8]) -> Result<(Request, &[u8]), RecordFault>
+    ensures { Equals (λ x. (x.0, x.1.now)) result (poll_all_in bytes.now) }
+{
+    let (limit, rest) = fields::u32_at(bytes)?;
+    let (wait, rest) = fields::u32_at(rest)?;
+    fields::pairs(rest)?;
+    Ok((Request::PollAll { limit, wait }, rest))
+}
+
+fn publication_positions(bytes: &[u8]) -> Result<(Request, &[u8]), RecordFault>
+    ensures { Equals (λ x. (x.0, x.1.now)) result (publication_positions_in bytes.now) }
+{
+    let (registration, rest) = fields::u64_at(bytes)?;
+    fields::end(rest)?;
+    Ok((Request::PublicationPositions { registration }, &[]))
+}
+
+fn image_positions(bytes: &[u8]) -> Result<(Request, &[u8]), RecordFault>
+    ensures { Equals (λ x. (x.0, x.1.now)) result (image_positions_in bytes.now) }
+{
+    let (subscription, rest) = fields::u64_at(bytes)?;
+    let (source, rest) = fields::u64_at(rest)?;
+    fields::end(rest)?;
+    Ok((
+        Request::ImagePositions {
+            subscription,
+            source,
+        },
+        &[],
+    ))
+}
+
 #[tactic(auto, unfolding(crate::specs::Request::request_in))]
 fn read_fields(kind: u32, bytes: &[u8]) -> Result<(Request, &[u8]), RecordFault>
     ensures { Equals (λ x. (x.0, x.1.now)) result (request_in kind bytes.now) }
@@ -144,6 +190,9 @@ fn read_fields(kind: u32, bytes: &[u8]) -> Result<(Request, &[u8]), RecordFault>
         7 => stop(bytes),
         8 => reload(bytes),
         9 => status(bytes),
+        10 => poll_all(bytes),
+        11 => publication_positions(bytes),
+        12 => image_positions(bytes),
         _ => Err(RecordFault::Unknown),
     }
 }
@@ -175,6 +224,9 @@ impl Request {
             Request::Stop => 7,
             Request::Reload => 8,
             Request::Status => 9,
+            Request::PollAll { .. } => 10,
+            Request::PublicationPositions { .. } => 11,
+            Request::ImagePositions { .. } => 12,
         }
     }
 
@@ -210,6 +262,20 @@ impl Request {
             Request::Stop => Ok(()),
             Request::Reload => Ok(()),
             Request::Status => Ok(()),
+            Request::PollAll { limit, wait } => {
+                fields::put_u32(out, *limit)?;
+                fields::put_u32(out, *wait)
+            }
+            Request::PublicationPositions { registration } => {
+                fields::put_u64(out, *registration)
+            }
+            Request::ImagePositions {
+                subscription,
+                source,
+            } => {
+                fields::put_u64(out, *subscription)?;
+                fields::put_u64(out, *source)
+            }
         }
     }
 
@@ -228,6 +294,9 @@ impl Request {
             Request::Stop => 0,
             Request::Reload => 0,
             Request::Status => 0,
+            Request::PollAll { .. } => 8,
+            Request::PublicationPositions { .. } => 8,
+            Request::ImagePositions { .. } => 16,
         }
     }
 

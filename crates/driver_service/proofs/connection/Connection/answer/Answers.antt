@@ -1,9 +1,10 @@
-use Rattle.std.proofs.Common.{refl, subst, sym}
+use Rattle.std.proofs.Common.{ℕ, refl, subst, sym}
 use Rattle.service_records.specs.declared.request.Request.{Request}
 use Rattle.driver_service.specs.Answering.{IsAnswer, KeepsRefusals}
 use Rattle.driver_service.specs.Calls.{CallsOnly}
-use Rattle.driver_service.specs.Requests.{IsAllowed, IsCommand, IsLook, IsMail, IsNamed, IsOffer, IsPoll, IsValue, fragments}
+use Rattle.driver_service.specs.Requests.{IsAllowed, IsCommand, IsImage, IsLook, IsMail, IsNamed, IsOffer, IsPoll, IsPollOf, IsPublication, IsValue, fragments, polled_pairs}
 use Rattle.driver_service.proofs.CallLemmas.{after_stay, of_answers, of_mail, of_offers, stay_alone}
+use Rattle.driver_service.proofs.RoundLemmas.{of_rounds}
 use Rattle.driver_service.proofs.connection.Connection.answer.Goals as goal
 
 pub returns-in-Command : goal.returns-in-Command
@@ -143,3 +144,44 @@ returns-in-Status g c = record {
         subst (λ (r : Request). IsAnswer g.S.Seat.does r c.args.tail.now c.args.self.now.refusals c.args.self.now.refusals c.stay.new.self c.stay.new.self c.args.out.now.items c.refuse-in-Status.new.out.items c.refuse-in-Status.result) (sym c.in-Status.is) (record { same = refl; answered = c.refuse-in-Status.ensures });
   };
 }
+
+pub returns-in-PollAll-clause-calls : goal.returns-in-PollAll-clause-calls
+returns-in-PollAll-clause-calls g c =
+    let pairs = polled_pairs c.args.tail.now in
+    let limit = fragments c.in-PollAll.limit in
+    let calls = of_rounds g.S.Seat.does c.few-limit.result pairs c.stay.new.self c.answer_rounds.new.seat c.args.out.now.items c.answer_rounds.new.out.items c.answer_rounds.result c.answer_rounds.ensures in
+    let named = subst (λ (n : ℕ). CallsOnly g.S.Seat.does (IsPollOf n pairs) c.stay.new.self c.answer_rounds.new.seat) c.few-limit.ensures calls in
+    subst (λ (r : Request). CallsOnly g.S.Seat.does (IsAllowed r c.args.tail.now) c.args.self.now.seat c.answer_rounds.new.seat) (sym c.in-PollAll.is)
+    (after_stay g.S.Seat.does (IsPollOf limit pairs) c.args.self.now.seat c.stay.new.self c.answer_rounds.new.seat c.stay.ensures named)
+
+pub returns-in-PublicationPositions : goal.returns-in-PublicationPositions
+returns-in-PublicationPositions g c =
+    let calls = of_answers g.S.Seat.does (IsPublication c.in-PublicationPositions.registration) c.stay.new.self c.publication_positions.new.self.seat c.args.out.now.items c.publication_positions.new.out.items c.publication_positions.result c.publication_positions.ensures.answers in
+    record {
+      calls =
+          subst (λ (r : Request). CallsOnly g.S.Seat.does (IsAllowed r c.args.tail.now) c.args.self.now.seat c.publication_positions.new.self.seat) (sym c.in-PublicationPositions.is)
+          (after_stay g.S.Seat.does (IsPublication c.in-PublicationPositions.registration) c.args.self.now.seat c.stay.new.self c.publication_positions.new.self.seat c.stay.ensures calls);
+      answered = record {
+        heard = c.stay.new.self;
+        stays = c.stay.ensures;
+        kept = subst (λ (r : Request). KeepsRefusals r c.args.self.now.refusals c.publication_positions.new.self.refusals) (sym c.in-PublicationPositions.is) c.publication_positions.ensures.refusals;
+        answer =
+            subst (λ (r : Request). IsAnswer g.S.Seat.does r c.args.tail.now c.args.self.now.refusals c.publication_positions.new.self.refusals c.stay.new.self c.publication_positions.new.self.seat c.args.out.now.items c.publication_positions.new.out.items c.publication_positions.result) (sym c.in-PublicationPositions.is) c.publication_positions.ensures.answers;
+      };
+    }
+
+pub returns-in-ImagePositions : goal.returns-in-ImagePositions
+returns-in-ImagePositions g c =
+    let calls = of_answers g.S.Seat.does (IsImage c.in-ImagePositions.subscription c.in-ImagePositions.source) c.stay.new.self c.image_positions.new.self.seat c.args.out.now.items c.image_positions.new.out.items c.image_positions.result c.image_positions.ensures.answers in
+    record {
+      calls =
+          subst (λ (r : Request). CallsOnly g.S.Seat.does (IsAllowed r c.args.tail.now) c.args.self.now.seat c.image_positions.new.self.seat) (sym c.in-ImagePositions.is)
+          (after_stay g.S.Seat.does (IsImage c.in-ImagePositions.subscription c.in-ImagePositions.source) c.args.self.now.seat c.stay.new.self c.image_positions.new.self.seat c.stay.ensures calls);
+      answered = record {
+        heard = c.stay.new.self;
+        stays = c.stay.ensures;
+        kept = subst (λ (r : Request). KeepsRefusals r c.args.self.now.refusals c.image_positions.new.self.refusals) (sym c.in-ImagePositions.is) c.image_positions.ensures.refusals;
+        answer =
+            subst (λ (r : Request). IsAnswer g.S.Seat.does r c.args.tail.now c.args.self.now.refusals c.image_positions.new.self.refusals c.stay.new.self c.image_positions.new.self.seat c.args.out.now.items c.image_positions.new.out.items c.image_positions.result) (sym c.in-ImagePositions.is) c.image_positions.ensures.answers;
+      };
+    }

@@ -1,10 +1,10 @@
 use Rattle.std.proofs.Common.{◌≡◌}
 use Rattle.driver_service.specs.Calls.{CallsOnly}
-use Rattle.driver_service.specs.Requests.{IsOffer}
+use Rattle.driver_service.specs.Requests.{IsOffer, IsTry}
 use Rattle.driver_service.proofs.connection.Connection.offered.Given as goal
 
 abbrev pub invariant-loop : goal.invariant-loop
 invariant-loop g l =
     (goal.iterator-loop g).can_next l.iterator' × (goal.iterator-loop g).is_finite l.iterator'
-    × CallsOnly g.S.Seat.does (IsOffer l.fn.registration l.fn.message) l.fn.self.seat l.self.seat
+    × CallsOnly g.S.Seat.does (IsTry (IsOffer l.fn.registration l.fn.message)) l.fn.self.seat l.self.seat
     × (l.self.refusals ≡ l.fn.self.refusals)

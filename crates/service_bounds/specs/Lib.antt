@@ -1,0 +1,4 @@
+pub mod Counts
+pub mod Changes
+pub mod Asking
+pub mod Held

@@ -1,0 +1,3 @@
+pub mod ActLemmas
+pub mod StreamLemmas
+pub mod OrderLemmas

@@ -1,0 +1,3 @@
+pub mod Acting
+pub mod Streams
+pub mod Order
