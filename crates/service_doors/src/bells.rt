@@ -1,0 +1,251 @@
+//! What wakes those who wait: a message in a log, or room there, and the end of a connection.
+
+use driver_service::Pauses;
+use mio::unix::SourceFd;
+use mio::{Events, Interest, Poll, Token, Waker};
+use program_parts::{Machine, ticks};
+use std::alloc::Global;
+use std::os::fd::AsRawFd;
+use std::os::unix::net::UnixStream;
+use std::sync::atomic::{AtomicBool, AtomicU64, Ordering};
+use std::sync::{Arc, Mutex, Wait};
+use std::thread;
+use std::time::{Clock, Duration};
+
+/// For how long a wait yields to other threads before it sleeps, in nanoseconds.
+const YIELDING: u64 = 50_000;
+
+/// For how long it sleeps shortly then, in nanoseconds. A message of another host, and a reply, wake nobody.
+const NAPPING: u64 = 100_000_000;
+
+/// How long it sleeps shortly, in nanoseconds.
+const NAP: u64 = 1_000_000;
+
+/// How long it sleeps in the end, in nanoseconds.
+const SLEEP: u64 = 5_000_000;
+
+/// The token of the connection, and that of who wakes.
+const CONNECTION: Token = Token(0);
+
+const WOKEN: Token = Token(1);
+
+/// What wakes one connection.
+#[derive(Drop)]
+struct Bell {
+    /// The id of its client.
+    number: u64,
+    asleep: AtomicBool,
+    waker: Waker,
+}
+
+/// What wakes all of them.
+#[derive(Drop)]
+pub struct Bells {
+    /// How many sleep, or are about to.
+    sleepers: AtomicU64,
+    bells: Mutex<Vec<Arc<Bell>>>,
+    /// Whether the driver stops.
+    stopping: AtomicBool,
+}
+
+impl Bells {
+    pub(crate) fn new(alloc: Global) -> Bells {
+        Bells {
+            sleepers: AtomicU64::new(0),
+            bells: Mutex::new(Vec::new(alloc)),
+            stopping: AtomicBool::new(false),
+        }
+    }
+
+    /// Whoever sleeps goes on.
+    pub(crate) fn ring<R: Wait>(&self, rt: &R) {
+        if self.sleepers.load(Ordering::SeqCst) == 0 {
+            return;
+        }
+        let bells = self.bells.lock(rt);
+        for bell in bells.iter() {
+            if self.wakes(bell) {
+                let _ = bell.waker.wake();
+            }
+        }
+    }
+
+    /// The driver stops.
+    pub(crate) fn stop<R: Wait>(&self, rt: &R) {
+        self.stopping.store(true, Ordering::SeqCst);
+        self.ring(rt);
+    }
+
+    fn is_stopping(&self) -> bool {
+        self.stopping.load(Ordering::SeqCst)
+    }
+
+    /// One is about to sleep, and is woken from now on. Whether it was not before.
+    fn dozes(&self, bell: &Bell) -> bool {
+        if bell.asleep.swap(true, Ordering::SeqCst) {
+            return false;
+        }
+        let _ = self.sleepers.fetch_add(1, Ordering::SeqCst);
+        true
+    }
+
+    /// One does not sleep any more. Whether it did.
+    fn wakes(&self, bell: &Bell) -> bool {
+        if !bell.asleep.swap(false, Ordering::SeqCst) {
+            return false;
+        }
+        let _ = self.sleepers.fetch_sub(1, Ordering::SeqCst);
+        true
+    }
+
+    fn enter<R: Wait>(&self, rt: &R, bell: &Arc<Bell>) -> Option<()> {
+        let bell = Arc::try_clone(bell).ok()?;
+        let mut bells = self.bells.lock(rt);
+        bells.push(bell).ok()
+    }
+
+    fn leave<R: Wait>(&self, rt: &R, bell: &Bell) {
+        let _ = self.wakes(bell);
+        let mut bells = self.bells.lock(rt);
+        bells.retain(|other| other.number != bell.number);
+    }
+}
+
+/// What a connection sleeps by: until its stream ends, or somebody wakes it.
+#[derive(Drop)]
+struct Bed {
+    poll: Poll,
+    events: Events<Global>,
+}
+
+impl Bed {
+    /// `None` where there is no memory, or the system has no more descriptors.
+    fn new<R: Machine>(rt: &R, stream: &UnixStream) -> Option<Bed> {
+        let poll = Poll::new(rt).ok()?;
+        let descriptor = stream.as_raw_fd();
+        poll.registry()
+            .register(&mut SourceFd(&descriptor), CONNECTION, Interest::READABLE)
+            .ok()?;
+        let events = Events::with_capacity(rt.alloc(), 4).ok()?;
+        Some(Bed { poll, events })
+    }
+
+    /// What wakes it.
+    fn waker(&self) -> Option<Waker> {
+        Waker::new(self.poll.registry(), WOKEN).ok()
+    }
+
+    /// Whether the other end of the connection is gone, by what was seen last.
+    fn is_left(&self) -> bool {
+        for event in self.events.iter() {
+            if event.token() == CONNECTION && event.is_read_closed() {
+                return true;
+            }
+        }
+        false
+    }
+
+    /// Sleeps for so many nanoseconds at most. Whether the other end of the connection is gone.
+    fn sleep(&mut self, longest: u64) -> bool {
+        let longest = Some(Duration::from_nanos(longest));
+        let _ = self.poll.poll(&mut self.events, longest);
+        self.is_left()
+    }
+}
+
+/// How a connection waits.
+#[derive(Drop)]
+pub struct Watch<R: Clock + Wait + Copy + Drop> {
+    rt: R,
+    bells: Arc<Bells>,
+    bell: Arc<Bell>,
+    bed: Bed,
+    /// When this wait began, in nanoseconds of the steady clock.
+    began: u64,
+    /// Whether the other end of the connection is gone.
+    gone: bool,
+}
+
+/// What wakes the connection of that client.
+fn bell_for(alloc: Global, bed: &Bed, number: u64) -> Option<Arc<Bell>> {
+    let waker = bed.waker()?;
+    let bell = Bell {
+        number,
+        asleep: AtomicBool::new(false),
+        waker,
+    };
+    Arc::new(alloc, bell).ok()
+}
+
+/// How long is slept at once by somebody who waited for so long, in nanoseconds.
+fn nap(waited: u64) -> u64 {
+    if waited < NAPPING { NAP } else { SLEEP }
+}
+
+impl<R: Machine> Watch<R> {
+    /// A wait of the client of that number. `None` where there is no memory, or the system has no more descriptors.
+    pub fn new(rt: R, bells: Arc<Bells>, stream: &UnixStream, number: u64) -> Option<Watch<R>> {
+        let bed = Bed::new(&rt, stream)?;
+        let bell = bell_for(rt.alloc(), &bed, number)?;
+        bells.enter(&rt, &bell)?;
+        Some(Watch {
+            rt,
+            bells,
+            bell,
+            bed,
+            began: 0,
+            gone: false,
+        })
+    }
+}
+
+impl<R: Clock + Wait + Copy + Drop> Watch<R> {
+    /// The connection ended.
+    pub fn end(&mut self) {
+        self.bells.leave(&self.rt, &self.bell);
+    }
+
+    /// How long this wait is, of which so many pauses are over, in nanoseconds.
+    fn waited(&mut self, turn: u32) -> u64 {
+        let now = ticks(&self.rt);
+        if turn == 0 {
+            self.began = now;
+        }
+        now.saturating_sub(self.began)
+    }
+
+    /// Sleeps, unless somebody woke it since it dozed. Whether the other end is there.
+    fn sleep(&mut self, longest: u64) -> bool {
+        let left = self.bed.sleep(longest);
+        let _ = self.bells.wakes(&self.bell);
+        self.gone = self.gone || left;
+        !self.gone
+    }
+}
+
+/// Lets others go on for a while. Whether to wait on.
+fn pause_of<R: Clock + Wait + Copy + Drop>(watch: &mut Watch<R>, turn: u32, left: u64) -> bool {
+    if watch.bells.is_stopping() {
+        return false;
+    }
+    let waited = watch.waited(turn);
+    if waited < YIELDING {
+        thread::yield_now();
+        return true;
+    }
+    if watch.bells.dozes(&watch.bell) {
+        // From now on it is woken, so the request is tried once more before it sleeps.
+        return true;
+    }
+    watch.sleep(nap(waited).min(left))
+}
+
+impl<R: Clock + Wait + Copy + Drop> Pauses for Watch<R> {
+    fn pause(&mut self, turn: u32, left: u64) -> bool {
+        pause_of(self, turn, left)
+    }
+
+    fn is_stopping(&self) -> bool {
+        self.bells.is_stopping()
+    }
+}

@@ -1,0 +1,184 @@
+//! What an operator asks, by a door of their own.
+
+ghost use Rattle.service_doors.specs.Orders.{asked_of_bytes, refusal_bytes};
+ghost use Rattle.std.specs.Prelude.{◌≡◌, ◌++◌, OnOk};
+
+use crate::fault::DoorFault;
+use crate::guests::Guest;
+use crate::hall::{Event, Hall};
+use crate::serving::Reloaded;
+use driver_service::Reason;
+use program_parts::{Machine, SECOND, ticks};
+use service_records::{Answer, Request, first_record};
+use service_streams::dismiss;
+use std::alloc::Global;
+use std::io::{Read, Write};
+use std::os::unix::net::UnixStream;
+use std::time::Duration;
+
+/// How long an operator may take to ask, in milliseconds.
+const ASKING: u64 = 200;
+
+/// How often is read until a request is there, at most.
+const READS: usize = 64;
+
+/// What the first record of some bytes asks for, once all of it is there.
+enum Asked {
+    NotYet,
+    For(Request),
+    Nothing,
+}
+
+/// What the first record of some bytes asks for.
+fn asked_by(bytes: &[u8]) -> Asked
+    ensures { result ≡ asked_of_bytes bytes.now }
+{
+    match first_record(bytes) {
+        Ok(None) => Asked::NotYet,
+        Ok(Some(cut)) => match Request::read(cut.record) {
+            Ok((request, _)) => Asked::For(request),
+            Err(_) => Asked::Nothing,
+        },
+        Err(_) => Asked::Nothing,
+    }
+}
+
+/// More bytes come. Whether they did.
+fn read_more<T: Read>(stream: &mut T, bytes: &mut Vec<u8>) -> bool {
+    let mut chunk = [0u8; 64];
+    match stream.read(&mut chunk) {
+        Ok(0) => false,
+        Ok(count) => {
+            let more = chunk.get(..count).unwrap_or(&[]);
+            bytes.extend_from_slice(more).is_ok()
+        }
+        Err(_) => false,
+    }
+}
+
+/// The first request that comes.
+fn request_of<T: Read>(alloc: Global, stream: &mut T) -> Option<Request> {
+    let mut bytes = Vec::new(alloc);
+    for _reads in 0..READS {
+        match asked_by(bytes.as_slice()) {
+            Asked::For(request) => return Some(request),
+            Asked::Nothing => return None,
+            Asked::NotYet => {}
+        }
+        if !read_more(stream, &mut bytes) {
+            return None;
+        }
+    }
+    None
+}
+
+/// Each line of a text is a record, and one closes them.
+fn tell_lines(text: &str, out: &mut Vec<u8>) -> Result<(), DoorFault> {
+    let mut count = 0u32;
+    for line in text.lines() {
+        Answer::Line.put(line.as_bytes(), out)?;
+        count = count.saturating_add(1);
+    }
+    Answer::Done { count }.put(&[], out)?;
+    Ok(())
+}
+
+/// A request is refused.
+fn refuse(code: i32, text: &str, out: &mut Vec<u8>) -> Result<(), DoorFault>
+    ensures { OnOk result (out.new.items ≡ out.old.items ++ refusal_bytes code text.now) }
+{
+    Answer::Refused { code }.put(text.as_bytes(), out)?;
+    Ok(())
+}
+
+/// What came of reading the policy's file again, as records.
+fn put_reload(came: &Reloaded, out: &mut Vec<u8>) -> Result<(), DoorFault> {
+    match came {
+        Reloaded::Same => tell_lines("", out),
+        Reloaded::InForce(text) => tell_lines(text.as_str(), out),
+        Reloaded::Refused(text) => refuse(1, text.as_str(), out),
+        Reloaded::NoMemory => refuse(Reason::NoMemory.code(), Reason::NoMemory.text(), out),
+    }
+}
+
+/// Records go to an operator, or that there was no memory for them.
+fn send(alloc: Global, stream: UnixStream, put: Result<(), DoorFault>, out: &[u8]) {
+    let mut stream = stream;
+    match put {
+        Ok(()) => {
+            let _ = stream.write_all(out);
+        }
+        Err(_) => dismiss(alloc, &mut stream, Reason::NoMemory),
+    }
+}
+
+/// An operator is told what came of reading the policy's file again.
+pub(crate) fn tell_reload(alloc: Global, stream: UnixStream, came: &Reloaded) {
+    let mut out = Vec::new(alloc);
+    let put = put_reload(came, &mut out);
+    send(alloc, stream, put, out.as_slice());
+}
+
+impl<R: Machine> Hall<'_, R> {
+    /// A line for a client.
+    fn tell_guest(&self, guest: &Guest, now: u64, out: &mut Vec<u8>) -> Result<(), DoorFault> {
+        let seconds = now.saturating_sub(guest.since) / SECOND;
+        let number = guest.number;
+        let principal = guest.principal;
+        let name = self.holders.name_of(principal);
+        let (publications, subscriptions, counters) = self
+            .holders
+            .counts_of(&self.rt, principal, number);
+        let line = format!(in self.rt.alloc();
+            "client {number} of {name} for {seconds} s: {publications} publications, {subscriptions} subscriptions, {counters} counters"
+        )?;
+        Answer::Line.put(line.as_bytes(), out)?;
+        Ok(())
+    }
+
+    /// A line for each client.
+    fn tell_guests(&self, out: &mut Vec<u8>) -> Result<(), DoorFault> {
+        let now = ticks(&self.rt);
+        let mut count = 0u32;
+        for guest in self.guests.rows.iter() {
+            self.tell_guest(guest, now, out)?;
+            count = count.saturating_add(1);
+        }
+        Answer::Done { count }.put(&[], out)?;
+        Ok(())
+    }
+
+    /// What an operator asks is answered.
+    fn obey(&mut self, request: Request, out: &mut Vec<u8>) -> Result<(), DoorFault> {
+        match request {
+            Request::Stop => {
+                self.stop = true;
+                tell_lines("", out)
+            }
+            Request::Status => self.tell_guests(out),
+            _ => {
+                let reason = Reason::UnknownRequest;
+                refuse(reason.code(), reason.text(), out)
+            }
+        }
+    }
+
+    /// An operator asks once, and is answered; that the policy's file be read again is an event.
+    pub(crate) fn hear(&mut self, stream: UnixStream) -> Option<Event<R>> {
+        let mut stream = stream;
+        let alloc = self.rt.alloc();
+        let limit = Some(Duration::from_millis(ASKING));
+        let _ = stream.set_read_timeout(limit);
+        let _ = stream.set_write_timeout(limit);
+        match request_of(alloc, &mut stream) {
+            Some(Request::Reload) => return Some(Event::Asks(stream)),
+            Some(request) => {
+                let mut out = Vec::new(alloc);
+                let put = self.obey(request, &mut out);
+                send(alloc, stream, put, out.as_slice());
+            }
+            None => dismiss(alloc, &mut stream, Reason::UnknownRequest),
+        }
+        None
+    }
+}
