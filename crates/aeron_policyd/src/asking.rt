@@ -1,10 +1,10 @@
 //! A client asks for a subscription or a publication, and waits for the answer.
 
 use crate::fault::Fault;
-use crate::machine::{Disk, Machine};
 use crate::replies::{Answered, Ready, RefusalText, answer_in};
-use crate::station::{Station, pause};
+use crate::station::Station;
 use media_driver::DriverNaming;
+use program_parts::{Disk, Machine, pause};
 
 impl<N: DriverNaming + Send + Sync + 'static, R: Machine, F: Disk> Station<N, R, F> {
     /// What stands by the command of this correlation id. A driver answers each command.
@@ -40,5 +40,14 @@ impl<N: DriverNaming + Send + Sync + 'static, R: Machine, F: Disk> Station<N, R,
             let _ = eprintln!(self.rt; "session {session}");
         }
         Ok(ready.registration)
+    }
+
+    /// Adds a destination to a publication of the client's.
+    pub(crate) fn destination(&mut self, registration: u64, channel: &str) -> Result<(), Fault> {
+        let command = self
+            .client
+            .add_destination(&self.rt, registration, channel)?;
+        self.ready(command)?;
+        Ok(())
     }
 }

@@ -44,7 +44,7 @@ impl Reports {
     pub(crate) fn note(&mut self, from: Address, position: u64, now: u64) {
         self.forget(now);
         if let Some(report) = self.rows.iter_mut().find(|report| report.from.is(&from)) {
-            report.position = report.position.max(position);
+            report.position = position;
             report.at = now;
         } else if self.rows.len() < MOST {
             let _ = self.rows.push(Report {
@@ -53,6 +53,11 @@ impl Reports {
                 at: now,
             });
         }
+    }
+
+    /// Whether one reported from this address, and was not forgotten.
+    pub(crate) fn has(&self, from: &Address) -> bool {
+        self.rows.iter().any(|report| report.from.is(from))
     }
 
     /// Up to which position each of them has taken the stream; `None` where none is there.

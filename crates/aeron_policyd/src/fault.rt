@@ -5,24 +5,30 @@ use media_driver::{ElicitFault, MakeFault, PushFault, StartFault};
 use message_words::{DecodeFault, WordFault};
 use policy_answers::AskFault;
 use policy_core::Verdict;
-use policy_text::PolicyFault;
-use policy_tools::NamesFault;
+use program_parts::PartFault;
+use service_doors::DoorFault;
+use service_remote::RemoteFault;
 use std::alloc::{AllocError, AllocFailed};
+use std::io;
+use std::process::ExitCode;
+use stream_gaps::NotTaken;
 use thiserror::Error;
+
+/// The status after messages were lost, and those after them came.
+const GAP: u8 = 3;
 
 /// Why the program gave up.
 #[derive(Clone, Copy, Debug, Error)]
 pub enum Fault {
-    #[error("cannot read file")]
-    CannotRead,
+    /// It was said on standard error already.
+    #[error("")]
+    Said,
+    #[error("cannot read file: {0}")]
+    CannotRead(io::ErrorKind),
     #[error("{0}")]
     Run(RunFault),
     #[error("{0}")]
-    Policy(PolicyFault),
-    #[error("{0}")]
     Ask(AskFault),
-    #[error("{0}")]
-    Names(NamesFault),
     #[error("{0}")]
     Words(WordFault),
     #[error("{0}")]
@@ -37,22 +43,14 @@ pub enum Fault {
     NoClock,
     #[error("no thread")]
     NoThread,
-    #[error("no client")]
+    #[error("no client could attach: the driver has no free seat, or is stopped")]
     NoClient,
     #[error("queue full")]
     QueueFull,
-    #[error("unknown principal")]
-    UnknownPrincipal,
-    #[error("setting {0}: bad key or value")]
-    BadSetting(usize),
-    #[error("peer {0}: bad address or principal")]
-    BadPeer(usize),
     #[error("aeron:ipc reaches no other process")]
     Ipc,
     #[error("a spy reads its own driver alone")]
     Spy,
-    #[error("control: bad address")]
-    BadControl,
     #[error("no endpoint to join from")]
     NoEndpoint,
     #[error("too many to join")]
@@ -67,14 +65,26 @@ pub enum Fault {
     NoSubscriber,
     #[error("back pressure")]
     BackPressure,
+    #[error("{0}")]
+    NotTaken(NotTaken),
+    #[error("messages were lost")]
+    Gap,
     #[error("message too long")]
     TooLongMessage,
     #[error("greatest position reached")]
     MaxPosition,
-    #[error("no look")]
+    #[error("the registry cannot be read right now: try again")]
     NoLook,
     #[error("client gone")]
     Closed,
+    #[error("{0}")]
+    Doors(DoorFault),
+    #[error("{0}")]
+    Remote(RemoteFault),
+    #[error("no policy: name one with --policy, or a driver with --driver")]
+    NoPolicy,
+    #[error("--control needs a driver of this process")]
+    OwnDriver,
 }
 
 impl Fault {
@@ -83,6 +93,14 @@ impl Fault {
     pub const WRITE: Fault = Fault::Run(RunFault::Write);
 
     pub const READ: Fault = Fault::Run(RunFault::Read);
+
+    /// The status with which the program ends by it.
+    pub(crate) fn status(&self) -> ExitCode {
+        match self {
+            Fault::Gap => ExitCode::from(GAP),
+            _ => ExitCode::FAILURE,
+        }
+    }
 }
 
 impl From<RunFault> for Fault {
@@ -91,21 +109,9 @@ impl From<RunFault> for Fault {
     }
 }
 
-impl From<PolicyFault> for Fault {
-    fn from(fault: PolicyFault) -> Fault {
-        Fault::Policy(fault)
-    }
-}
-
 impl From<AskFault> for Fault {
     fn from(fault: AskFault) -> Fault {
         Fault::Ask(fault)
-    }
-}
-
-impl From<NamesFault> for Fault {
-    fn from(fault: NamesFault) -> Fault {
-        Fault::Names(fault)
     }
 }
 
@@ -165,5 +171,36 @@ impl From<PushFault> for Fault {
 impl From<AllocError> for Fault {
     fn from(_error: AllocError) -> Fault {
         Fault::NO_MEMORY
+    }
+}
+
+impl From<PartFault> for Fault {
+    fn from(fault: PartFault) -> Fault {
+        match fault {
+            PartFault::NoMemory => Fault::NO_MEMORY,
+            PartFault::Read => Fault::READ,
+            PartFault::Write => Fault::WRITE,
+            PartFault::TooLong => Fault::TooLongMessage,
+            PartFault::NoThread => Fault::NoThread,
+        }
+    }
+}
+
+impl From<DoorFault> for Fault {
+    fn from(fault: DoorFault) -> Fault {
+        match fault {
+            DoorFault::NoMemory => Fault::NO_MEMORY,
+            _ => Fault::Doors(fault),
+        }
+    }
+}
+
+impl From<RemoteFault> for Fault {
+    fn from(fault: RemoteFault) -> Fault {
+        match fault {
+            RemoteFault::Part(fault) => Fault::from(fault),
+            RemoteFault::Gap => Fault::Gap,
+            _ => Fault::Remote(fault),
+        }
     }
 }

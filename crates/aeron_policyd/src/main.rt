@@ -2,39 +2,44 @@
 //!
 //! The words of the command line are `command_words`'. The work is done in `policy_answers`, `driver_script` and
 //! `media_driver`. Here are the files, and what the program ends with: 0, or 1 after a fault, a bad line of a script or a
-//! case that fails, or 2 where the command line is at fault.
+//! case that fails, or 2 where the command line is at fault, or 3 where messages were lost and later ones came.
 #![tactic(auto)]
 
 mod asking;
+mod causes;
+mod connecting;
 mod consuming;
 mod fault;
 mod files;
-mod input;
-mod machine;
+mod heard;
+mod hosting;
+mod keeping;
 mod messages;
 mod moments;
+mod named;
 mod one_client;
 mod options;
 mod policies;
 mod publishing;
 mod replies;
+mod rules;
 mod running;
+mod scripts;
+mod serving;
 mod starting;
 mod station;
 mod subscribing;
 mod watched;
 
 use crate::fault::Fault;
-use crate::files::open;
-use crate::machine::{Disk, Machine};
 use crate::messages::answer_messages;
 use crate::policies::answer_asking;
+use crate::scripts::run_script;
 use crate::starting::start;
 use clap::ArgMatches;
 use clap::error::ErrorKind;
 use command_words::{Task, command, task_in};
-use driver_script::script::Ended;
-use driver_script::{MayFail, script};
+use program_parts::{Disk, Machine};
 use std::io::StdinLock;
 use std::net::{Net, TcpListener, TcpStream};
 use std::process::ExitCode;
@@ -77,16 +82,6 @@ fn print_text<R: Print>(rt: &R, text: &str) -> Result<ExitCode, Fault> {
         Ok(()) => Ok(ExitCode::SUCCESS),
         Err(_) => Err(Fault::WRITE),
     }
-}
-
-/// Runs the script in a file to standard output.
-fn run_script<R: Machine, F: Disk>(rt: &R, files: &F, path: &str) -> Result<ExitCode, Fault> {
-    let mut file = MayFail(open(files, path)?);
-    let ended = script::run(rt.alloc(), &mut file, &mut MayFail(io::writer(rt)))?;
-    Ok(match ended {
-        Ended::Done => ExitCode::SUCCESS,
-        Ended::BadLine(_) => ExitCode::FAILURE,
-    })
 }
 
 /// Does a task.
@@ -153,9 +148,10 @@ where
 fn main(rt: HostRuntime) -> ExitCode {
     match serve(&rt, &rt) {
         Ok(status) => status,
+        Err(Fault::Said) => ExitCode::FAILURE,
         Err(fault) => {
             let _ = eprintln!(rt; "aeron_policyd: {fault}");
-            ExitCode::FAILURE
+            fault.status()
         }
     }
 }

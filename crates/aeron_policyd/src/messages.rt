@@ -1,11 +1,11 @@
 //! What is asked of a command, a reply or a datagram, answered by `message_words`.
 
 use crate::fault::Fault;
-use crate::machine::Machine;
 use crate::print_text;
 use byte_strings::Text;
 use command_words::Messages;
 use message_words::{Reading, decode, encode};
+use program_parts::Machine;
 use std::alloc::{AllocError, Global};
 use std::process::ExitCode;
 

@@ -3,10 +3,12 @@
 ghost use Rattle.driver_core.specs.Soundness.{AreSettings};
 ghost use Rattle.media_driver.specs.Parts.{AreNamed};
 
+use crate::causes::Causes;
 use crate::consuming::Reports;
 use crate::fault::Fault;
-use crate::machine::{Disk, Machine};
+use crate::heard::{Heard, both_ends};
 use crate::publishing::Publishing;
+use crate::rules::Rules;
 use crate::running::try_out;
 use crate::station::{Chores, OwnDriver, Station};
 use crate::subscribing::Subscribing;
@@ -16,9 +18,12 @@ use driver_core::{Peer, Settings};
 use media_driver::{AttachFault, Driver, DriverNaming, Parts};
 use media_wire::Udp;
 use policy_core::Policy;
-use std::alloc::AllocError;
+use program_parts::{Disk, Machine};
+use rtrb::Consumer;
+use std::alloc::{AllocError, Global};
 use std::marker::Brand;
 use std::sync::Arc;
+use wire_causes::Said;
 
 /// How many sockets may be open at once: the send address, an endpoint for each subscription, and a control address for each
 /// publication.
@@ -42,6 +47,12 @@ pub(crate) struct Work {
     pub(crate) unused: Option<Address>,
     /// After how long without a report a subscriber is gone, in nanoseconds.
     pub(crate) silence: u64,
+    /// After how long without a report of any subscriber none is there, in nanoseconds.
+    pub(crate) timeout: u64,
+    /// The stream of the client's channel.
+    pub(crate) stream: i32,
+    /// What the policy says of what goes over the wire.
+    pub(crate) rules: Rules,
     pub(crate) task: Task,
 }
 
@@ -71,6 +82,8 @@ fn attached<N: DriverNaming + Send + Sync + 'static, R: Machine, F: Disk>(
     files: F,
     driver: OwnDriver<N, R>,
     notes: Arc<Notes>,
+    heard: Consumer<Heard, Global>,
+    said: Said,
     work: Work,
 ) -> Result<(), Fault> {
     let mut driver = driver;
@@ -79,11 +92,15 @@ fn attached<N: DriverNaming + Send + Sync + 'static, R: Machine, F: Disk>(
         chores,
         unused: _,
         silence: _,
+        timeout: _,
+        stream: _,
+        rules,
         task,
     } = work;
     match driver.client(principal) {
         Ok(client) => {
-            let mut station = Station::new(rt, files, driver, client, notes, chores);
+            let causes = Causes::new(heard, rules, said);
+            let mut station = Station::new(rt, files, driver, client, notes, causes, chores);
             let done = perform(&mut station, &task);
             let (driver, client) = station.into_parts();
             let mut clients = Vec::new(rt.alloc());
@@ -98,21 +115,41 @@ fn attached<N: DriverNaming + Send + Sync + 'static, R: Machine, F: Disk>(
     }
 }
 
-/// The sockets of the system, with notes of what goes over them.
-fn watched<R: Machine>(
-    rt: R,
-    unused: Option<Address>,
-    silence: u64,
-) -> Result<(Watched<Udp<R>, R>, Arc<Notes>), AllocError> {
+/// The sockets of the system, with notes of what goes over them, and what is heard there.
+#[derive(Drop)]
+struct Ears<R: Machine> {
+    wire: Watched<Udp<R>, R>,
+    notes: Arc<Notes>,
+    heard: Consumer<Heard, Global>,
+    said: Said,
+}
+
+/// They are made.
+fn watched<R: Machine>(rt: R, work: &Work) -> Result<Ears<R>, AllocError> {
     let wire = Udp::new(rt.alloc(), rt, SOCKETS)?;
     let notes = match Arc::new(rt.alloc(), Notes::new()) {
         Ok(notes) => notes,
         Err(_) => return Err(AllocError),
     };
     let theirs = Arc::try_clone(&notes)?;
-    let reports = Reports::new(rt.alloc(), silence)?;
-    let watched = Watched::new(wire, theirs, rt, reports, unused);
-    Ok((watched, notes))
+    let reports = Reports::new(rt.alloc(), work.silence)?;
+    let (ear, heard) = both_ends(rt.alloc())?;
+    let wire = Watched::new(
+        wire,
+        theirs,
+        rt,
+        reports,
+        ear,
+        work.stream,
+        work.timeout,
+        work.unused,
+    );
+    Ok(Ears {
+        wire,
+        notes,
+        heard,
+        said: Said::new(rt.alloc())?,
+    })
 }
 
 /// A driver starts from these parts.
@@ -124,7 +161,12 @@ fn started<N: DriverNaming + Send + Sync + 'static, R: Machine, F: Disk>(
 ) -> Result<(), Fault>
     requires { AreNamed N.home N.client_ledger N.client_parts N.slot_ledger N.slot_parts N.book parts }
 {
-    let (wire, notes) = match watched(rt, work.unused, work.silence) {
+    let Ears {
+        wire,
+        notes,
+        heard,
+        said,
+    } = match watched(rt, &work) {
         Ok(made) => made,
         Err(_) => {
             parts.end(&rt);
@@ -133,7 +175,7 @@ fn started<N: DriverNaming + Send + Sync + 'static, R: Machine, F: Disk>(
     };
     let started: Result<OwnDriver<N, R>, _> = Driver::start(rt, rt.alloc(), parts, wire);
     match started {
-        Ok(driver) => attached(rt, files, driver, notes, work),
+        Ok(driver) => attached(rt, files, driver, notes, heard, said, work),
         Err(fault) => Err(Fault::Start(fault)),
     }
 }

@@ -4,54 +4,154 @@ ghost use Rattle.driver_core.specs.Soundness.{AreSettings};
 ghost use Rattle.std.specs.Prelude.{IfOk};
 
 use crate::fault::Fault;
+use crate::files::give_up;
 use byte_strings::Text;
 use channel_uri::{Address, Channel, Media, address_of};
 use command_words::Join;
 use driver_core::{Peer, Settings};
 use media_driver::Elicitation;
 use policy_text::Names;
+use program_parts::Machine;
 use script_lines::settings::Choices;
+use setting_words::{Kind, kind_of, plain};
 use std::alloc::{AllocError, Global};
+use std::fmt;
 
 /// The port from which a publisher's driver sends where no other is chosen.
 pub(crate) const PUBLISHER: u16 = 40_000;
 
-/// The settings that words `KEY=VALUE` choose.
-pub(crate) fn settings_of(alloc: Global, words: &[&str]) -> Result<Settings, Fault>
+/// An option of the command line that is at fault.
+#[derive(Clone, Copy)]
+struct BadOption<'a> {
+    option: &'static str,
+    word: &'a str,
+    why: &'a str,
+}
+
+impl fmt::Display for BadOption<'_> {
+    fn fmt<W: fmt::Write>(&self, f: &mut fmt::Formatter<W>) -> fmt::Result {
+        let BadOption { option, word, why } = self;
+        write!(f, "{option} {word}: {why}")
+    }
+}
+
+/// Says what is wrong with an option.
+pub(crate) fn refuse<R: Machine>(rt: &R, option: &'static str, word: &str, why: &str) -> Fault {
+    give_up(rt, &BadOption { option, word, why })
+}
+
+/// What is wrong with a word `KEY=VALUE` that chooses nothing.
+fn why_not(key: &str, given: &[&str]) -> &'static str {
+    let Some((_, wanted)) = kind_of(key) else {
+        return "no such setting: `aeron_policyd publish --help` lists them";
+    };
+    if chooses(given, key) {
+        return "chosen before";
+    }
+    wanted
+}
+
+/// Takes a choice; whether it is one.
+fn chose(alloc: Global, choices: &mut Choices, key: &str, value: &str) -> Result<bool, AllocError> {
+    let Some((kind, _)) = kind_of(key) else {
+        return Ok(false);
+    };
+    match plain(alloc, kind, value)? {
+        Some(value) => choices.choose(Text::new(alloc, key)?, value.as_str()),
+        None => Ok(false),
+    }
+}
+
+/// Whether one of the words chooses this key.
+pub(crate) fn chooses(words: &[&str], key: &str) -> bool {
+    words.iter().any(|word| match word.split_once('=') {
+        Some((chosen, _)) => chosen == key,
+        None => false,
+    })
+}
+
+/// The settings that words `KEY=VALUE` choose. What is wrong with the first one that chooses nothing is said on standard error.
+pub(crate) fn settings_of<R: Machine>(rt: &R, words: &[&str]) -> Result<Settings, Fault>
     ensures { IfOk result (λ settings. AreSettings settings) }
 {
-    let mut choices = Choices::new(alloc);
+    let mut choices = Choices::new(rt.alloc());
     for (place, word) in words.iter().enumerate() {
         let Some((key, value)) = word.split_once('=') else {
-            return Err(Fault::BadSetting(place.saturating_add(1)));
+            return Err(refuse(rt, "--setting", word, "wanted KEY=VALUE"));
         };
-        if !choices.choose(Text::new(alloc, key)?, value)? {
-            return Err(Fault::BadSetting(place.saturating_add(1)));
+        if !chose(rt.alloc(), &mut choices, key, value)? {
+            let given = words.get(..place).unwrap_or(&[]);
+            return Err(refuse(rt, "--setting", word, why_not(key, given)));
         }
     }
     Ok(choices.settings)
 }
 
-/// The peer that a word `ADDR=PRINCIPAL` names.
-fn peer_of(names: &Names, word: &str) -> Option<Peer> {
-    let (address, principal) = word.split_once('=')?;
-    Some(Peer {
-        address: address_of(address)?,
-        principal: names.number_of(principal)?,
+/// The address that a text is, where `localhost:` at its head is 127.0.0.1.
+fn address_from(alloc: Global, text: &str) -> Result<Option<Address>, AllocError> {
+    Ok(match plain(alloc, Kind::Address, text)? {
+        Some(address) => address_of(address.as_str()),
+        None => None,
     })
 }
 
-/// The peers that words name: each address once, 256 at most.
-pub(crate) fn peers_of(alloc: Global, names: &Names, words: &[&str]) -> Result<Vec<Peer>, Fault> {
-    let mut peers: Vec<Peer> = Vec::new(alloc);
-    for (place, word) in words.iter().enumerate() {
-        let Some(peer) = peer_of(names, word) else {
-            return Err(Fault::BadPeer(place.saturating_add(1)));
+/// The address that an option names. What is wrong with it is said on standard error.
+pub(crate) fn address_in<R: Machine>(
+    rt: &R,
+    option: &'static str,
+    text: &str,
+) -> Result<Address, Fault> {
+    match address_from(rt.alloc(), text)? {
+        Some(address) => Ok(address),
+        None => Err(refuse(rt, option, text, ADDRESS)),
+    }
+}
+
+/// The peer that a word `ADDR=PRINCIPAL` names, or what is wrong with it.
+fn peer_of(
+    alloc: Global,
+    names: &Names,
+    word: &str,
+) -> Result<Result<Peer, &'static str>, AllocError> {
+    let Some((address, principal)) = word.split_once('=') else {
+        return Ok(Err("wanted ADDR=PRINCIPAL"));
+    };
+    let Some(address) = address_from(alloc, address)? else {
+        return Ok(Err(ADDRESS));
+    };
+    Ok(match names.number_of(principal) {
+        Some(principal) => Ok(Peer { address, principal }),
+        None => Err("unknown principal"),
+    })
+}
+
+/// What is wanted where an address stands.
+const ADDRESS: &str = "wanted an IPv4 address and a port, as 127.0.0.1:40000";
+
+/// How many peers there may be.
+const PEERS: usize = 256;
+
+/// The peers that words name: each address once, 256 at most. What is wrong with the first one that names none is said on
+/// standard error.
+pub(crate) fn peers_of<R: Machine>(
+    rt: &R,
+    names: &Names,
+    words: &[&str],
+) -> Result<Vec<Peer>, Fault> {
+    let mut peers: Vec<Peer> = Vec::new(rt.alloc());
+    for word in words {
+        let why = match peer_of(rt.alloc(), names, word)? {
+            Err(why) => why,
+            Ok(_) if peers.len() >= PEERS => "more than 256 peers",
+            Ok(peer) if peers.iter().any(|known| known.address.is(&peer.address)) => {
+                "this address was given before"
+            }
+            Ok(peer) => {
+                peers.push(peer)?;
+                continue;
+            }
         };
-        if place >= 256 || peers.iter().any(|known| known.address.is(&peer.address)) {
-            return Err(Fault::BadPeer(place.saturating_add(1)));
-        }
-        peers.push(peer)?;
+        return Err(refuse(rt, "--peer", word, why));
     }
     Ok(peers)
 }
@@ -87,7 +187,8 @@ pub(crate) fn control_of(channel: &str) -> Result<Option<Address>, Fault> {
 }
 
 /// Which publication is asked to send to the endpoint, if one is.
-pub(crate) fn elicitation_of(
+pub(crate) fn elicitation_of<R: Machine>(
+    rt: &R,
     join: Option<Join<'_>>,
     endpoint: Option<Address>,
     stream: i32,
@@ -95,9 +196,7 @@ pub(crate) fn elicitation_of(
     let Some(Join { control, session }) = join else {
         return Ok(None);
     };
-    let Some(control) = address_of(control) else {
-        return Err(Fault::BadControl);
-    };
+    let control = address_in(rt, "--control", control)?;
     let Some(endpoint) = endpoint else {
         return Err(Fault::NoEndpoint);
     };

@@ -1,133 +1,214 @@
 //! What is asked of the policy in a file: the files are read, and `policy_answers` answers.
 
 use crate::fault::Fault;
-use crate::files::file_bytes;
-use crate::machine::{Disk, Machine};
+use crate::files::{bytes_of, give_up};
 use crate::moments::{BadWord, at_of, soon_of, usual_moment};
+use crate::named::Named;
 use crate::{USAGE, print_text};
 use command_words::{Asked, Asking, Question};
 use policy_answers::{
-    Answer, AskFault, check, compare, decide, explain, find_faults, show, table_of_all,
-    table_of_one, try_cases,
+    Answer, AskFault, Place, Table, check, check_json, compare, compare_json, decide, decide_json,
+    explain, explain_json, find_faults, find_faults_json, refusal, rows_text, show, show_json,
+    table_of_all, table_of_all_json, table_of_one, table_of_one_json, try_cases, try_cases_json,
 };
-use policy_tools::Directory;
-use std::alloc::Global;
+use policy_query::DecideFault;
+use policy_tools::CasesFault;
+use program_parts::{Disk, Machine};
 use std::process::ExitCode;
 
-/// The names of principals: those of a file, where one is given.
-fn directory_in<F: Disk>(files: &F, names: Option<&str>) -> Result<Directory, Fault> {
-    let Some(path) = names else {
-        return Ok(Directory::usual(files.alloc())?);
-    };
-    let bytes = file_bytes(files, path)?;
-    Ok(Directory::read(files.alloc(), bytes.as_slice())?)
-}
-
-/// What a policy decides of a question, and perhaps why.
-fn decided(
-    alloc: Global,
-    policy: &[u8],
-    directory: &Directory,
-    question: &Question<'_>,
+/// What is asked, with what was read for it.
+#[derive(Clone, Copy)]
+struct Read<'a> {
+    asking: &'a Asking<'a>,
+    names: &'a Named,
+    policy: &'a [u8],
+    /// The file that the question names beside the policy's, if it names one: of cases, or of another policy.
+    other: &'a [u8],
+    /// The moment at which the policy is asked, in nanoseconds since 1970.
     moment: u64,
-    why: bool,
-) -> Result<Answer, AskFault> {
-    let Question {
-        principal,
-        act,
-        channel,
-        stream,
-    } = *question;
-    if why {
-        explain(
-            alloc, policy, directory, principal, act, channel, stream, moment,
-        )
-    } else {
-        decide(
-            alloc, policy, directory, principal, act, channel, stream, moment,
-        )
-    }
-}
-
-/// Who may do what under a policy: one principal, or each.
-fn table(
-    alloc: Global,
-    policy: &[u8],
-    directory: &Directory,
-    principal: Option<&str>,
-    moment: u64,
-) -> Result<Answer, AskFault> {
-    match principal {
-        Some(name) => table_of_one(alloc, policy, directory, name, moment),
-        None => table_of_all(alloc, policy, directory, moment),
-    }
-}
-
-/// Whether a policy gives the answers that the cases in a file want.
-fn tried<F: Disk>(
-    files: &F,
-    policy: &[u8],
-    directory: &Directory,
-    path: &str,
-    moment: u64,
-) -> Result<Answer, Fault> {
-    let cases = file_bytes(files, path)?;
-    Ok(try_cases(files.alloc(), policy, directory, cases.as_slice(), moment)?)
-}
-
-/// What would be decided otherwise under the policy in another file.
-fn compared<F: Disk>(
-    files: &F,
-    policy: &[u8],
-    directory: &Directory,
-    path: &str,
-    moment: u64,
-) -> Result<Answer, Fault> {
-    let new = file_bytes(files, path)?;
-    Ok(compare(files.alloc(), policy, new.as_slice(), directory, moment)?)
-}
-
-/// What is answered to what is asked of a policy at a moment; `soon` is within how many nanoseconds a rule has to end to be
-/// warned of, if it is to be.
-fn answered<F: Disk>(
-    files: &F,
-    policy: &[u8],
-    directory: &Directory,
-    asking: &Asking<'_>,
-    moment: u64,
+    /// Within how many nanoseconds a rule has to end to be warned of, if it is to be.
     soon: Option<u64>,
-) -> Result<Answer, Fault> {
-    let alloc = files.alloc();
-    Ok(match &asking.asked {
-        Asked::Check => check(alloc, policy, directory)?,
-        Asked::Show => show(alloc, policy, directory)?,
-        Asked::Decide(question) => decided(alloc, policy, directory, question, moment, false)?,
-        Asked::Explain(question) => decided(alloc, policy, directory, question, moment, true)?,
-        Asked::Lint { strict, .. } => {
-            find_faults(
-                alloc,
-                policy,
-                directory,
-                asking.policy,
-                *strict,
-                moment,
-                soon,
-            )?
+}
+
+impl Read<'_> {
+    /// What the policy decides of a question.
+    fn decided<R: Machine>(&self, rt: &R, question: &Question<'_>) -> Result<Answer, AskFault> {
+        let Question {
+            principal,
+            act,
+            channel,
+            stream,
+        } = *question;
+        let (alloc, policy, moment) = (rt.alloc(), self.policy, self.moment);
+        let directory = &self.names.directory;
+        if self.asking.json {
+            decide_json(
+                alloc, policy, directory, principal, act, channel, stream, moment,
+            )
+        } else {
+            decide(
+                alloc, policy, directory, principal, act, channel, stream, moment,
+            )
         }
-        Asked::Test(path) => tried(files, policy, directory, path, moment)?,
-        Asked::Table { principal } => table(alloc, policy, directory, *principal, moment)?,
-        Asked::Diff(path) => compared(files, policy, directory, path, moment)?,
-    })
+    }
+
+    /// What it decides of a question, and why.
+    fn explained<R: Machine>(
+        &self,
+        rt: &R,
+        question: &Question<'_>,
+        near: Option<u64>,
+    ) -> Result<Answer, AskFault> {
+        let Question {
+            principal,
+            act,
+            channel,
+            stream,
+        } = *question;
+        let (alloc, policy, moment) = (rt.alloc(), self.policy, self.moment);
+        let directory = &self.names.directory;
+        if self.asking.json {
+            explain_json(
+                alloc, policy, directory, principal, act, channel, stream, moment, near,
+            )
+        } else {
+            explain(
+                alloc, policy, directory, principal, act, channel, stream, moment, near,
+            )
+        }
+    }
+
+    /// What is wrong with it, or likely not meant.
+    fn linted<R: Machine>(&self, rt: &R, strict: bool) -> Result<Answer, AskFault> {
+        let (alloc, policy, moment) = (rt.alloc(), self.policy, self.moment);
+        let directory = &self.names.directory;
+        let path = self.asking.policy;
+        if self.asking.json {
+            find_faults_json(alloc, policy, directory, path, strict, moment, self.soon)
+        } else {
+            find_faults(alloc, policy, directory, path, strict, moment, self.soon)
+        }
+    }
+
+    /// Who may do what under it: one principal, or each.
+    fn table<R: Machine>(&self, rt: &R, principal: Option<&str>) -> Result<Table, AskFault> {
+        let (alloc, policy, moment) = (rt.alloc(), self.policy, self.moment);
+        let directory = &self.names.directory;
+        match principal {
+            Some(name) => table_of_one(alloc, policy, directory, name, moment),
+            None => table_of_all(alloc, policy, directory, moment),
+        }
+    }
+
+    /// The same as JSON.
+    fn table_json<R: Machine>(&self, rt: &R, principal: Option<&str>) -> Result<Answer, AskFault> {
+        let (alloc, policy, moment) = (rt.alloc(), self.policy, self.moment);
+        let directory = &self.names.directory;
+        match principal {
+            Some(name) => table_of_one_json(alloc, policy, directory, name, moment),
+            None => table_of_all_json(alloc, policy, directory, moment),
+        }
+    }
+
+    /// Prints a table, page by page, and how many rows it has.
+    fn print_table<R: Machine>(&self, rt: &R, table: &Table) -> Result<ExitCode, Fault> {
+        let directory = &self.names.directory;
+        let mut place = Place::FIRST;
+        for _ in 0..u64::MAX {
+            if table.is_end(place) {
+                break;
+            }
+            let page = table.page(rt.alloc(), directory, place)?;
+            print_text(rt, page.text.as_str())?;
+            place = page.next;
+        }
+        print_text(rt, rows_text(rt.alloc(), table.rows())?.as_str())
+    }
+
+    /// What is answered as one text.
+    fn answer<R: Machine>(&self, rt: &R) -> Result<Answer, AskFault> {
+        let alloc = rt.alloc();
+        let directory = &self.names.directory;
+        let json = self.asking.json;
+        match &self.asking.asked {
+            Asked::Check if json => check_json(alloc, self.policy, directory),
+            Asked::Check => check(alloc, self.policy, directory),
+            Asked::Show if json => show_json(alloc, self.policy, directory),
+            Asked::Show => show(alloc, self.policy, directory),
+            Asked::Decide(question) => self.decided(rt, question),
+            Asked::Explain { question, near } => self.explained(rt, question, *near),
+            Asked::Lint { strict, .. } => self.linted(rt, *strict),
+            Asked::Test(_) if json => {
+                try_cases_json(alloc, self.policy, directory, self.other, self.moment)
+            }
+            Asked::Test(_) => try_cases(alloc, self.policy, directory, self.other, self.moment),
+            Asked::Table { principal } => self.table_json(rt, *principal),
+            Asked::Diff(_) if json => {
+                compare_json(alloc, self.policy, self.other, directory, self.moment)
+            }
+            Asked::Diff(_) => compare(alloc, self.policy, self.other, directory, self.moment),
+        }
+    }
+
+    /// Answers, and prints the answer; what it ends with.
+    fn respond<R: Machine>(&self, rt: &R) -> Result<Result<ExitCode, Fault>, AskFault> {
+        match &self.asking.asked {
+            Asked::Table { principal } if !self.asking.json => {
+                let table = self.table(rt, *principal)?;
+                Ok(self.print_table(rt, &table))
+            }
+            _ => {
+                let answer = self.answer(rt)?;
+                Ok(print_answer(rt, &answer))
+            }
+        }
+    }
+
+    /// Says what is wrong with the first file that is no policy: the policy's, or that of another one.
+    fn refuse<R: Machine>(&self, rt: &R) -> Result<Fault, Fault> {
+        let alloc = rt.alloc();
+        let names = self.names;
+        let directory = &names.directory;
+        let origin = names.origin(self.asking.policy);
+        if let Some(why) = refusal(alloc, self.policy, directory, origin)? {
+            return Ok(give_up(rt, &why));
+        }
+        if let Asked::Diff(path) = &self.asking.asked {
+            if let Some(why) = refusal(alloc, self.other, directory, names.origin(path))? {
+                return Ok(give_up(rt, &why));
+            }
+        }
+        Ok(Fault::NO_MEMORY)
+    }
+}
+
+/// The file that a question names beside the policy's.
+fn other_file<'a>(asked: &Asked<'a>) -> Option<&'a str> {
+    match asked {
+        Asked::Test(path) | Asked::Diff(path) => Some(path),
+        _ => None,
+    }
+}
+
+/// The status of an answer that is not well, where it is not known that something failed.
+const UNSURE: u8 = 4;
+
+/// The status of an answer.
+fn status_of(answer: &Answer) -> ExitCode {
+    if answer.is_well {
+        return ExitCode::SUCCESS;
+    }
+    if answer.is_sure {
+        ExitCode::FAILURE
+    } else {
+        ExitCode::from(UNSURE)
+    }
 }
 
 /// Prints what is answered.
 fn print_answer<R: Machine>(rt: &R, answer: &Answer) -> Result<ExitCode, Fault> {
     print_text(rt, answer.text.as_str())?;
-    Ok(if answer.is_well {
-        ExitCode::SUCCESS
-    } else {
-        ExitCode::FAILURE
-    })
+    Ok(status_of(answer))
 }
 
 /// Prints which word of the command line is at fault.
@@ -146,6 +227,73 @@ fn soon_word<'a>(asked: &Asked<'a>) -> Option<&'a str> {
     }
 }
 
+/// Says what is wrong with a file of cases.
+fn refuse_cases<R: Machine>(rt: &R, path: &str, fault: CasesFault) -> Fault {
+    let _ = match fault {
+        CasesFault::BadLine(line, why) => eprintln!(rt; "aeron_policyd: {path}:{line}: {why}"),
+        CasesFault::BadChannel(line, error) => {
+            eprintln!(rt; "aeron_policyd: {path}:{line}: invalid channel: {error}")
+        }
+        CasesFault::NotText => eprintln!(rt; "aeron_policyd: {path}: not UTF-8"),
+        CasesFault::NoMemory => return Fault::NO_MEMORY,
+    };
+    Fault::Said
+}
+
+/// Says why a question is not answered, with the word of it that is at fault.
+fn name_fault<R: Machine>(rt: &R, asked: &Asked<'_>, fault: AskFault) -> Fault {
+    let word = match (fault, asked) {
+        (AskFault::Cases(fault), Asked::Test(path)) => return refuse_cases(rt, path, fault),
+        (
+            AskFault::Decide(DecideFault::UnknownPrincipal),
+            Asked::Decide(question) | Asked::Explain { question, .. },
+        ) => question.principal,
+        (
+            AskFault::Decide(DecideFault::UnknownAct),
+            Asked::Decide(question) | Asked::Explain { question, .. },
+        ) => question.act,
+        (
+            AskFault::Decide(DecideFault::InvalidChannel(_)) | AskFault::Channel(_),
+            Asked::Decide(question) | Asked::Explain { question, .. },
+        ) => question.channel,
+        (AskFault::UnknownPrincipal, Asked::Table { principal }) => principal.unwrap_or(""),
+        _ => return Fault::Ask(fault),
+    };
+    let _ = eprintln!(rt; "aeron_policyd: {word}: {fault}");
+    Fault::Said
+}
+
+/// Reads the files, and answers what is asked at a moment.
+fn read_and_answer<R: Machine, F: Disk>(
+    rt: &R,
+    files: &F,
+    asking: &Asking<'_>,
+    moment: u64,
+    soon: Option<u64>,
+) -> Result<ExitCode, Fault> {
+    let names = Named::read(rt, files, asking.names)?;
+    let policy = bytes_of(rt, files, asking.policy)?;
+    let other = match other_file(&asking.asked) {
+        Some(path) => bytes_of(rt, files, path)?,
+        None => Vec::new(rt.alloc()),
+    };
+    let read = Read {
+        asking,
+        names: &names,
+        policy: policy.as_slice(),
+        other: other.as_slice(),
+        moment,
+        soon,
+    };
+    match read.respond(rt) {
+        Ok(printed) => printed,
+        Err(AskFault::Policy(_) | AskFault::Decide(DecideFault::Policy(_))) => {
+            Err(read.refuse(rt)?)
+        }
+        Err(fault) => Err(name_fault(rt, &asking.asked, fault)),
+    }
+}
+
 /// Answers what is asked of the policy in a file.
 pub(crate) fn answer_asking<R: Machine, F: Disk>(
     rt: &R,
@@ -160,8 +308,5 @@ pub(crate) fn answer_asking<R: Machine, F: Disk>(
         Ok(soon) => soon,
         Err(word) => return refuse(rt, word),
     };
-    let directory = directory_in(files, asking.names)?;
-    let policy = file_bytes(files, asking.policy)?;
-    let answer = answered(files, policy.as_slice(), &directory, asking, moment, soon)?;
-    print_answer(rt, &answer)
+    read_and_answer(rt, files, asking, moment, soon)
 }

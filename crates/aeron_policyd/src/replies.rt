@@ -62,6 +62,13 @@ pub(crate) fn answer_in(reply: &ClientReply, command: u64) -> Result<Option<Answ
                 session: Some(*session),
             }),
         ),
+        ClientReply::Of(Reply::OperationSuccess { correlation }) => (
+            *correlation,
+            Answered::Ready(Ready {
+                registration: *correlation,
+                session: None,
+            }),
+        ),
         ClientReply::Of(
             Reply::Error {
                 correlation,

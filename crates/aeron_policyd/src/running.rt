@@ -1,10 +1,10 @@
 //! `run`: a driver's client sends itself a message.
 
 use crate::fault::Fault;
-use crate::machine::Machine;
 use crate::replies::{Answered, answer_in, say};
 use crate::station::OwnClient;
 use media_driver::{DriverNaming, OfferFault, PollFault};
+use program_parts::Machine;
 use std::fmt::Write;
 use std::thread;
 

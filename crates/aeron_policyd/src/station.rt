@@ -1,38 +1,28 @@
 //! A driver of this process with its one client, and what is done for them beside the messages: the client says that it is
 //! there, the policy's file is read again, and figures are printed, each in its time.
 
+use crate::causes::Causes;
 use crate::fault::Fault;
-use crate::files::file_bytes;
-use crate::machine::{Disk, Machine, ticks};
+use crate::files::{Unread, file_bytes};
+use crate::named::Named;
+use crate::rules::Rules;
 use crate::watched::Notes;
+use byte_strings::Text;
 use media_driver::{
     Client, ClientReply, Driver, DriverNaming, MachineClock, PushFault, ReloadFault,
 };
 use message_lines::Losses;
+use policy_answers::refusal;
+use policy_query::policy_in;
+use program_parts::{Disk, Machine, SECOND, report, ticks};
+use std::str;
 use std::sync::Arc;
-use std::time::Duration;
-use std::{str, thread};
 
 /// The driver of this process.
 pub(crate) type OwnDriver<N, R> = Driver<N, R, MachineClock<R>>;
 
 /// Its client.
 pub(crate) type OwnClient<N, R> = Client<N, MachineClock<R>>;
-
-/// A second, in nanoseconds.
-pub(crate) const SECOND: u64 = 1_000_000_000;
-
-/// How often a wait yields to other threads before it sleeps.
-const YIELDS: u32 = 500;
-
-/// How often it sleeps shortly then, before it sleeps longer.
-const NAPS: u32 = 1_000;
-
-/// How long it sleeps shortly, in microseconds.
-const NAP: u64 = 100;
-
-/// How long it sleeps in the end, in microseconds.
-const SLEEP: u64 = 1_000;
 
 /// What is asked for beside the messages.
 #[derive(Drop)]
@@ -41,12 +31,21 @@ pub(crate) struct Chores {
     pub(crate) policy: String,
     /// The bytes that were read from it last.
     pub(crate) text: Vec<u8>,
+    /// The names of principals that it may use.
+    pub(crate) names: Named,
     /// After how long it is read again, in nanoseconds, if it is.
     pub(crate) reload_every: Option<u64>,
     /// Whether figures are printed every second.
     pub(crate) stats: bool,
     /// How long the driver lets its client be silent, in nanoseconds.
     pub(crate) liveness: u64,
+}
+
+/// Which NAKs are printed: those that came, or those that went.
+#[derive(Clone, Copy)]
+pub(crate) enum Naks {
+    Heard,
+    Asked,
 }
 
 /// When which of these is due next, in nanoseconds of the machine's steady clock.
@@ -63,25 +62,49 @@ pub(crate) struct Station<N: DriverNaming, R: Machine, F: Disk> {
     pub(crate) driver: OwnDriver<N, R>,
     pub(crate) client: OwnClient<N, R>,
     pub(crate) notes: Arc<Notes>,
+    pub(crate) causes: Causes,
     files: F,
     chores: Chores,
     due: Due,
+    /// When what is due was done last, in nanoseconds.
+    tended: u64,
 }
 
-/// A line on standard error, which may be closed.
-pub(crate) fn report<R: Machine>(rt: &R, line: &str) {
-    let _ = rt.eprintln(line);
+/// What is wrong with a policy, in the words of `lint`, if anything is.
+fn why_not<R: Machine>(rt: &R, chores: &Chores, bytes: &[u8]) -> Result<Option<Text>, Fault> {
+    let origin = chores.names.origin(chores.policy.as_str());
+    Ok(refusal(rt.alloc(), bytes, &chores.names.directory, origin)?)
 }
 
-/// A wait goes on: other threads may run.
-pub(crate) fn pause<R: Machine>(rt: &R, waited: u32) {
-    if waited < YIELDS {
-        thread::yield_now();
-    } else if waited < YIELDS + NAPS {
-        thread::sleep(rt, Duration::from_micros(NAP));
-    } else {
-        thread::sleep(rt, Duration::from_micros(SLEEP));
+/// These bytes are put in force, and what comes of it is printed.
+fn put_in_force<N: DriverNaming + Send + Sync + 'static, R: Machine>(
+    rt: &R,
+    driver: &mut OwnDriver<N, R>,
+    rules: &mut Rules,
+    chores: &Chores,
+    bytes: &[u8],
+) -> Result<(), Fault> {
+    if let Some(why) = why_not(rt, chores, bytes)? {
+        let _ = eprintln!(rt; "policy refused: {why}");
+        return Ok(());
     }
+    let text = str::from_utf8(bytes).unwrap_or("");
+    let names = chores.names.directory.names();
+    match driver.reload(names, text) {
+        Ok(_) => {
+            report(rt, "policy in force");
+            match policy_in(rt.alloc(), bytes, names) {
+                Ok(policy) => rules.replace(policy),
+                Err(_) => return Err(Fault::NO_MEMORY),
+            }
+        }
+        Err(ReloadFault::NoMemory) => return Err(Fault::NO_MEMORY),
+        Err(ReloadFault::Full) => report(rt, "policy refused: full"),
+        Err(ReloadFault::Policy(fault)) => {
+            let _ = eprintln!(rt; "policy refused: {fault}");
+        }
+    }
+    Ok(())
 }
 
 impl<N: DriverNaming + Send + Sync + 'static, R: Machine, F: Disk> Station<N, R, F> {
@@ -91,6 +114,7 @@ impl<N: DriverNaming + Send + Sync + 'static, R: Machine, F: Disk> Station<N, R,
         driver: OwnDriver<N, R>,
         client: OwnClient<N, R>,
         notes: Arc<Notes>,
+        causes: Causes,
         chores: Chores,
     ) -> Station<N, R, F> {
         let now = ticks(&rt);
@@ -100,6 +124,7 @@ impl<N: DriverNaming + Send + Sync + 'static, R: Machine, F: Disk> Station<N, R,
             driver,
             client,
             notes,
+            causes,
             files,
             chores,
             due: Due {
@@ -107,7 +132,13 @@ impl<N: DriverNaming + Send + Sync + 'static, R: Machine, F: Disk> Station<N, R,
                 reload,
                 stats: now.saturating_add(SECOND),
             },
+            tended: now,
         }
+    }
+
+    /// When what is due was done last, in nanoseconds of the machine's steady clock.
+    pub(crate) fn tended(&self) -> u64 {
+        self.tended
     }
 
     /// The driver and its client, for the end.
@@ -117,9 +148,11 @@ impl<N: DriverNaming + Send + Sync + 'static, R: Machine, F: Disk> Station<N, R,
             driver,
             client,
             notes: _,
+            causes: _,
             files: _,
             chores: _,
             due: _,
+            tended: _,
         } = self;
         (driver, client)
     }
@@ -129,11 +162,15 @@ impl<N: DriverNaming + Send + Sync + 'static, R: Machine, F: Disk> Station<N, R,
         ticks(&self.rt)
     }
 
-    /// What was lost so far, with so many NAKs.
-    pub(crate) fn losses(&self, naks: u64) -> Losses {
+    /// What was lost so far. What was asked for and sent again is as the driver counts it.
+    pub(crate) fn losses(&self, naks: Naks) -> Losses {
+        let repairs = self.driver.tallies().repairs();
         Losses {
-            naks,
-            resent: self.notes.resent(),
+            naks: match naks {
+                Naks::Heard => repairs.heard,
+                Naks::Asked => repairs.asked,
+            },
+            resent: repairs.resent,
             bad: self.notes.bad(),
             failed: self.notes.failed(),
         }
@@ -160,19 +197,8 @@ impl<N: DriverNaming + Send + Sync + 'static, R: Machine, F: Disk> Station<N, R,
 
     /// These bytes are put in force, and what comes of it is printed.
     fn put_in_force(&mut self, bytes: &[u8]) -> Result<(), Fault> {
-        let Ok(text) = str::from_utf8(bytes) else {
-            report(&self.rt, "policy refused: not toml");
-            return Ok(());
-        };
-        match self.driver.reload(text) {
-            Ok(_) => report(&self.rt, "policy in force"),
-            Err(ReloadFault::NoMemory) => return Err(Fault::NO_MEMORY),
-            Err(ReloadFault::Full) => report(&self.rt, "policy refused: full"),
-            Err(ReloadFault::Policy(fault)) => {
-                let _ = eprintln!(self.rt; "policy refused: {fault}");
-            }
-        }
-        Ok(())
+        let rules = &mut self.causes.rules;
+        put_in_force(&self.rt, &mut self.driver, rules, &self.chores, bytes)
     }
 
     /// The policy's file is read again where it is time to. Where its bytes are others, they are put in force.
@@ -184,7 +210,8 @@ impl<N: DriverNaming + Send + Sync + 'static, R: Machine, F: Disk> Station<N, R,
             return Ok(());
         }
         self.due.reload = now.saturating_add(every);
-        match file_bytes(&self.files, self.chores.policy.as_str()) {
+        let path = self.chores.policy.as_str();
+        match file_bytes(&self.files, path) {
             Ok(bytes) => {
                 if bytes.as_slice() != self.chores.text.as_slice() {
                     self.put_in_force(bytes.as_slice())?;
@@ -192,7 +219,8 @@ impl<N: DriverNaming + Send + Sync + 'static, R: Machine, F: Disk> Station<N, R,
                 }
             }
             Err(fault) => {
-                let _ = eprintln!(self.rt; "policy refused: {fault}");
+                let unread = Unread { path, fault };
+                let _ = eprintln!(self.rt; "policy refused: {unread}");
             }
         }
         Ok(())
@@ -201,6 +229,7 @@ impl<N: DriverNaming + Send + Sync + 'static, R: Machine, F: Disk> Station<N, R,
     /// Does what is due. Whether figures are to be printed.
     pub(crate) fn tend(&mut self) -> Result<bool, Fault> {
         let now = self.now();
+        self.tended = now;
         self.keep_alive(now)?;
         self.reload(now)?;
         if !self.chores.stats || now < self.due.stats {

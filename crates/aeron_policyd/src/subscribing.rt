@@ -1,19 +1,23 @@
 //! `subscribe`: the messages that come are printed.
 
 use crate::fault::Fault;
-use crate::machine::{Disk, Machine};
-use crate::station::{SECOND, Station, pause, report};
+use crate::station::{Naks, Station};
 use driver_core::Reply;
 use driver_steps::FragmentCopies;
 use media_driver::{ClientReply, DriverNaming, Elicitation, PollFault};
-use message_lines::{Joiner, Received};
+use message_lines::{Form, Joiner, Received};
+use printed_streams::{Image, Images, Inbox, Output};
+use program_parts::{Disk, Machine, SECOND, pause, report};
 use std::alloc::{AllocError, Global};
-use std::io::Write;
+use std::thread;
 use std::time::Duration;
-use std::{io, thread};
+use stream_gaps::{Gap, Sessions};
 
 /// How many fragments a poll gives at most.
 const FRAGMENTS: u32 = 256;
+
+/// How often the last position is reported at least, where that takes no more than a second.
+const REPORTS: u64 = 4;
 
 /// What is subscribed to, and when it ends.
 #[derive(Drop)]
@@ -24,147 +28,67 @@ pub(crate) struct Subscribing {
     pub(crate) join: Option<Elicitation>,
     /// It ends after so many messages, if a number is given.
     pub(crate) count: Option<u64>,
-    /// Whether messages are printed as they are, without a line feed.
-    pub(crate) raw: bool,
+    pub(crate) form: Form,
+    /// After how long it ends, in nanoseconds, if it does.
+    pub(crate) until: Option<u64>,
     /// Whether it ends when the last stream that it read is gone.
     pub(crate) until_gone: bool,
+    /// Whether it ends at the first gap.
+    pub(crate) fail_on_gap: bool,
+    /// How long standard output may take nothing until a word says so, in nanoseconds.
+    pub(crate) wait: u64,
     /// How long it takes at most until a publisher learns how far this subscriber has come, in nanoseconds.
     pub(crate) status_interval: u64,
 }
 
-/// A stream that is read.
-#[derive(Drop)]
-struct Image {
-    source: u64,
-    joiner: Joiner,
+/// What a reply says of the streams of a subscription.
+enum Word {
+    Nothing,
+    Came(Option<Gap>),
+    Went,
 }
 
-/// The streams that are read.
-#[derive(Drop)]
-struct Images {
-    rows: Vec<Image>,
-    /// Whether there ever was one.
-    had_any: bool,
-}
-
-impl Images {
-    /// A stream is there.
-    fn add(&mut self, alloc: Global, source: u64) -> Result<(), AllocError> {
-        self.had_any = true;
-        let joiner = Joiner::new(alloc);
-        self.rows.push(Image { source, joiner })?;
-        Ok(())
-    }
-
-    /// A stream is gone.
-    fn remove(&mut self, source: u64) {
-        self.rows.retain(|image| image.source != source);
-    }
-
-    /// What a reply says of the streams of this subscription. Whether one of them is gone.
-    fn note(&mut self, alloc: Global, reply: &ClientReply, of: u64) -> Result<bool, Fault> {
-        match reply {
-            ClientReply::Of(
-                Reply::AvailableImage {
-                    source,
-                    subscription,
-                    ..
-                },
-            ) if *subscription == of => self.add(alloc, *source)?,
-            ClientReply::Of(
-                Reply::UnavailableImage {
-                    source,
-                    subscription,
-                    ..
-                },
-            ) if *subscription == of => {
-                self.remove(*source);
-                return Ok(true);
-            }
-            ClientReply::Of(Reply::ClientTimeout { .. }) => return Err(Fault::Closed),
-            _ => {}
+/// What a reply says of the streams of this subscription. They are changed by it.
+fn note(images: &mut Images, alloc: Global, reply: &ClientReply, of: u64) -> Result<Word, Fault> {
+    match reply {
+        ClientReply::Of(
+            Reply::AvailableImage {
+                source,
+                subscription,
+                session,
+                position,
+                ..
+            },
+        ) if *subscription == of => {
+            Ok(Word::Came(images.add(alloc, *source, *session, *position)?))
         }
-        Ok(false)
-    }
-
-    /// Whether there was a stream, and none is left.
-    fn are_gone(&self) -> bool {
-        self.had_any && self.rows.is_empty()
+        ClientReply::Of(
+            Reply::UnavailableImage {
+                source,
+                subscription,
+                ..
+            },
+        ) if *subscription == of => {
+            images.remove(*source);
+            Ok(Word::Went)
+        }
+        ClientReply::Of(Reply::ClientTimeout { .. }) => Err(Fault::Closed),
+        _ => Ok(Word::Nothing),
     }
 }
 
-/// What came so far, and what of it is not printed yet.
-#[derive(Drop)]
-struct Inbox {
-    lines: Vec<u8>,
-    raw: bool,
-    /// How many messages are still wanted.
-    left: u64,
-    messages: u64,
-    bytes: u64,
-    position: u64,
-}
-
-impl Inbox {
-    fn new(alloc: Global, asked: &Subscribing) -> Inbox {
-        Inbox {
-            lines: Vec::new(alloc),
-            raw: asked.raw,
-            left: asked.count.unwrap_or(u64::MAX),
-            messages: 0,
-            bytes: 0,
-            position: 0,
-        }
+/// Fragments of a stream are joined to messages. Whether there were any.
+fn join(
+    inbox: &mut Inbox,
+    joiner: &mut Joiner,
+    fragments: &FragmentCopies,
+) -> Result<bool, AllocError> {
+    let mut any = false;
+    for fragment in fragments.iter() {
+        any = true;
+        inbox.join_one(joiner, fragment.position, fragment.flags, fragment.payload)?;
     }
-
-    /// A message is there.
-    fn deliver(&mut self, message: &[u8]) -> Result<(), AllocError> {
-        if self.left == 0 {
-            return Ok(());
-        }
-        self.lines.extend_from_slice(message)?;
-        if !self.raw {
-            self.lines.push(b'\n')?;
-        }
-        self.left -= 1;
-        self.messages = self.messages.saturating_add(1);
-        self.bytes = self.bytes.saturating_add(message.len() as u64);
-        Ok(())
-    }
-
-    /// Fragments of a stream are joined to messages. Whether there were any.
-    fn join(
-        &mut self,
-        joiner: &mut Joiner,
-        fragments: &FragmentCopies,
-    ) -> Result<bool, AllocError> {
-        let mut any = false;
-        for fragment in fragments.iter() {
-            any = true;
-            self.position = fragment.position;
-            joiner.add(fragment.flags.begins_message(), fragment.payload)?;
-            if fragment.flags.ends_message() {
-                if let Some(message) = joiner.message() {
-                    self.deliver(message)?;
-                }
-                joiner.clear();
-            }
-        }
-        Ok(any)
-    }
-
-    /// What is not printed yet is printed.
-    fn flush<R: Machine>(&mut self, rt: &R) -> Result<(), Fault> {
-        if self.lines.is_empty() {
-            return Ok(());
-        }
-        let written = io::writer(rt).write_all(self.lines.as_slice());
-        self.lines.clear();
-        match written {
-            Ok(()) => Ok(()),
-            Err(_) => Err(Fault::WRITE),
-        }
-    }
+    Ok(any)
 }
 
 impl<N: DriverNaming + Send + Sync + 'static, R: Machine, F: Disk> Station<N, R, F> {
@@ -175,39 +99,58 @@ impl<N: DriverNaming + Send + Sync + 'static, R: Machine, F: Disk> Station<N, R,
             bytes: inbox.bytes,
             position: inbox.position,
             images: images as u64,
-            losses: self.losses(self.notes.asked()),
+            losses: self.losses(Naks::Asked),
         };
         let _ = eprintln!(self.rt; "{received}");
     }
 
-    /// All replies that are there are taken. A line says of each stream that goes that it is gone.
-    fn take_replies(&mut self, images: &mut Images, subscription: u64) -> Result<(), Fault> {
+    /// All replies that are there are taken. A line says of each stream that goes that it is gone, and of each one that comes
+    /// back what is lost before it.
+    fn take_replies(
+        &mut self,
+        images: &mut Images,
+        asked: &Subscribing,
+        of: u64,
+    ) -> Result<(), Fault> {
         let rt = self.rt;
         for _ in rt.forever() {
-            match self.next_reply() {
-                Some(reply) => {
-                    if images.note(rt.alloc(), &reply, subscription)? {
-                        report(&rt, "image gone");
+            let Some(reply) = self.next_reply() else {
+                return Ok(());
+            };
+            match note(images, rt.alloc(), &reply, of)? {
+                Word::Went => report(&rt, "image gone"),
+                Word::Came(Some(gap)) => {
+                    let _ = eprintln!(rt; "{gap}");
+                    if asked.fail_on_gap {
+                        return Err(Fault::Gap);
                     }
                 }
-                None => return Ok(()),
+                Word::Came(None) | Word::Nothing => {}
             }
         }
         unreachable!()
     }
 
-    /// A stream is polled once. Whether anything came; `None` where the stream is gone.
+    /// A stream is polled once, for no more than is wanted. Whether anything came; `None` where the stream is gone.
     fn poll_image(
         &mut self,
         image: &mut Image,
+        read: &mut Sessions,
         inbox: &mut Inbox,
         subscription: u64,
     ) -> Result<Option<bool>, Fault> {
+        let limit = inbox.limit(FRAGMENTS);
         match self
             .client
-            .poll(&self.rt, subscription, image.source, FRAGMENTS)
+            .poll(&self.rt, subscription, image.source, limit)
         {
-            Ok(fragments) => Ok(Some(inbox.join(&mut image.joiner, &fragments)?)),
+            Ok(fragments) => {
+                let any = join(inbox, &mut image.joiner, &fragments)?;
+                if any {
+                    read.read(image.session, inbox.position)?;
+                }
+                Ok(Some(any))
+            }
             Err(PollFault::Gone) => Ok(None),
             Err(PollFault::Denied(verdict)) => Err(Fault::Denied(verdict)),
             Err(PollFault::NoLook) => Ok(Some(false)),
@@ -215,7 +158,7 @@ impl<N: DriverNaming + Send + Sync + 'static, R: Machine, F: Disk> Station<N, R,
         }
     }
 
-    /// Each stream is polled once, and what came is printed. Whether anything came.
+    /// Each stream is polled once. Whether anything came.
     fn poll_all(
         &mut self,
         images: &mut Images,
@@ -225,7 +168,7 @@ impl<N: DriverNaming + Send + Sync + 'static, R: Machine, F: Disk> Station<N, R,
         let mut any = false;
         let mut gone = None;
         for image in images.rows.iter_mut() {
-            match self.poll_image(image, inbox, subscription)? {
+            match self.poll_image(image, &mut images.read, inbox, subscription)? {
                 Some(came) => any = any || came,
                 None => gone = Some(image.source),
             }
@@ -233,29 +176,37 @@ impl<N: DriverNaming + Send + Sync + 'static, R: Machine, F: Disk> Station<N, R,
         if let Some(source) = gone {
             images.remove(source);
         }
-        inbox.flush(&self.rt)?;
         Ok(any)
     }
 
-    /// Messages are printed until as many came as are wanted, or all streams are gone where that ends it.
+    /// Messages come until as many came as are wanted, the time is over, or all streams are gone where that ends it. None is
+    /// polled while standard output has no room for what came before.
     fn receive(
         &mut self,
         images: &mut Images,
         inbox: &mut Inbox,
-        subscription: u64,
-        until_gone: bool,
+        output: &mut Output,
+        asked: &Subscribing,
+        of: u64,
     ) -> Result<(), Fault> {
         let rt = self.rt;
+        let end = self.now().saturating_add(asked.until.unwrap_or(u64::MAX));
         let mut idle = 0u32;
         for _ in rt.forever() {
-            self.take_replies(images, subscription)?;
-            if self.poll_all(images, inbox, subscription)? {
+            self.take_replies(images, asked, of)?;
+            let now = self.now();
+            if self.causes.is_turn(now) {
+                self.listen(images.rows.as_slice());
+            }
+            if inbox.is_empty() && self.poll_all(images, inbox, of)? {
                 idle = 0;
             } else {
                 pause(&rt, idle);
                 idle = idle.saturating_add(1);
             }
-            if inbox.left == 0 || (until_gone && images.are_gone()) {
+            inbox.hand_on(rt.alloc(), output);
+            output.watch(&rt, now)?;
+            if inbox.left == 0 || now >= end || (asked.until_gone && images.are_gone()) {
                 return Ok(());
             }
             if self.tend()? {
@@ -265,28 +216,55 @@ impl<N: DriverNaming + Send + Sync + 'static, R: Machine, F: Disk> Station<N, R,
         unreachable!()
     }
 
-    /// Prints what comes. At the end the driver runs for as long as it may take until the publisher has learned of it.
+    /// What came is printed, as long as standard output takes any of it.
+    fn print_rest(&mut self, inbox: &mut Inbox, output: &mut Output) -> Result<(), Fault> {
+        let rt = self.rt;
+        let mut idle = 0u32;
+        for _ in rt.forever() {
+            inbox.hand_on(rt.alloc(), output);
+            if inbox.is_empty() && output.is_done() {
+                return Ok(());
+            }
+            if output.watch(&rt, self.now())? {
+                return Err(Fault::WRITE);
+            }
+            pause(&rt, idle);
+            idle = idle.saturating_add(1);
+            self.tend()?;
+        }
+        unreachable!()
+    }
+
+    /// The driver runs until it has reported some more times how far the publishers were read: reports may be lost.
+    fn report_last(&self, images: &Images, status_interval: u64) {
+        if !images.rows.is_empty() {
+            let last = status_interval
+                .saturating_mul(REPORTS)
+                .saturating_add(SECOND / 20)
+                .min(SECOND);
+            thread::sleep(&self.rt, Duration::from_nanos(last));
+        }
+    }
+
+    /// Prints what comes.
     pub(crate) fn subscribe(&mut self, asked: &Subscribing) -> Result<(), Fault> {
+        let rt = self.rt;
         let subscription = self.subscription(asked.channel.as_str(), asked.stream)?;
         if let Some(join) = asked.join {
             self.driver.elicit(join)?;
         }
-        let mut images = Images {
-            rows: Vec::new(self.rt.alloc()),
-            had_any: false,
-        };
-        let mut inbox = Inbox::new(self.rt.alloc(), asked);
-        let received = self.receive(&mut images, &mut inbox, subscription, asked.until_gone);
+        let mut images = Images::new(rt.alloc());
+        let mut inbox = Inbox::new(rt.alloc(), asked.form, asked.count);
+        let mut output = Output::open(rt, self.now(), asked.wait)?;
+        let received = self.receive(&mut images, &mut inbox, &mut output, asked, subscription);
+        let printed = self.print_rest(&mut inbox, &mut output);
         self.print_received(&inbox, images.rows.len());
         received?;
-        if images.rows.is_empty() {
-            return Ok(());
+        printed?;
+        self.report_last(&images, asked.status_interval);
+        if images.gaps > 0 {
+            return Err(Fault::Gap);
         }
-        let told = asked
-            .status_interval
-            .saturating_add(SECOND / 20)
-            .min(SECOND);
-        thread::sleep(&self.rt, Duration::from_nanos(told));
         Ok(())
     }
 }

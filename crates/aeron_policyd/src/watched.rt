@@ -4,29 +4,27 @@ ghost use Rattle.media_wire.specs.Events.{Event, counted};
 ghost use Rattle.std.specs.Prelude.{◌≡◌, ◌+◌, ◌-◌, ◌^◌, List, min};
 
 use crate::consuming::Reports;
-use crate::machine::ticks;
+use crate::heard::{Ear, Heard};
 use channel_uri::Address;
-use frame_codec::{Datagram, Flags, Frames, Packet, Setup, StatusMessage, position};
+use frame_codec::{Datagram, Flags, Frames, Packet, Setup, StatusMessage, padded_length, position};
 use media_wire::{Wire, WireFault};
+use program_parts::ticks;
 use std::sync::Arc;
 use std::sync::atomic::{AtomicU64, Ordering};
 use std::time::Clock;
+use stream_gaps::TakenUp;
 
 /// What went over a wire so far, as threads share it.
 #[derive(Drop)]
 pub(crate) struct Notes {
-    /// How many NAKs came.
-    naks: AtomicU64,
-    /// How many NAKs went.
-    asked: AtomicU64,
-    /// How many datagrams of data went again.
-    resent: AtomicU64,
     /// How many datagrams came that are none of the protocol.
     bad: AtomicU64,
     /// How many sends and reads failed.
     failed: AtomicU64,
-    /// Up to which position each subscriber has taken the last stream that was announced.
-    consumed: AtomicU64,
+    /// How many SETUPs went.
+    setups: AtomicU64,
+    /// How often the stream was taken up again further on than it was left.
+    gaps: AtomicU64,
 }
 
 /// One more.
@@ -37,25 +35,11 @@ fn count(number: &AtomicU64) {
 impl Notes {
     pub(crate) fn new() -> Notes {
         Notes {
-            naks: AtomicU64::new(0),
-            asked: AtomicU64::new(0),
-            resent: AtomicU64::new(0),
             bad: AtomicU64::new(0),
             failed: AtomicU64::new(0),
-            consumed: AtomicU64::new(0),
+            setups: AtomicU64::new(0),
+            gaps: AtomicU64::new(0),
         }
-    }
-
-    pub(crate) fn naks(&self) -> u64 {
-        self.naks.load(Ordering::SeqCst)
-    }
-
-    pub(crate) fn asked(&self) -> u64 {
-        self.asked.load(Ordering::SeqCst)
-    }
-
-    pub(crate) fn resent(&self) -> u64 {
-        self.resent.load(Ordering::SeqCst)
     }
 
     pub(crate) fn bad(&self) -> u64 {
@@ -66,9 +50,22 @@ impl Notes {
         self.failed.load(Ordering::SeqCst)
     }
 
-    pub(crate) fn consumed(&self) -> u64 {
-        self.consumed.load(Ordering::SeqCst)
+    pub(crate) fn setups(&self) -> u64 {
+        self.setups.load(Ordering::SeqCst)
     }
+
+    pub(crate) fn gaps(&self) -> u64 {
+        self.gaps.load(Ordering::SeqCst)
+    }
+}
+
+/// How many positions frames take.
+fn span_of(frames: Frames<'_>) -> u64 {
+    let mut span = 0u64;
+    for frame in frames {
+        span = span.saturating_add(padded_length(frame.header.length));
+    }
+    span
 }
 
 /// What is known of the streams that are sent.
@@ -77,10 +74,17 @@ struct Watch<C> {
     notes: Arc<Notes>,
     clock: C,
     reports: Reports,
+    ear: Ear,
+    /// The stream of the program's channel.
+    stream: i32,
     /// The last SETUP that was sent: it announces the stream whose consumption is noted.
     setup: Option<Setup>,
-    /// The greatest position at which data was sent.
-    reached: u64,
+    /// The position up to which data was sent.
+    sent: u64,
+    taken_up: TakenUp,
+    /// When anything came last from a subscriber, and after how long without that none is there, in nanoseconds.
+    met: u64,
+    timeout: u64,
 }
 
 impl<C: Clock> Watch<C> {
@@ -95,8 +99,9 @@ impl<C: Clock> Watch<C> {
         }
     }
 
-    /// Data is sent: again, where it stands before data that was sent.
+    /// Data is sent.
     fn note_data(&mut self, frames: Frames<'_>) {
+        let span = span_of(frames);
         let mut frames = frames;
         let Some(frame) = frames.next() else {
             return;
@@ -110,10 +115,30 @@ impl<C: Clock> Watch<C> {
         ) else {
             return;
         };
-        if at < self.reached {
-            count(&self.notes.resent);
-        } else {
-            self.reached = at;
+        self.sent = self.sent.max(at.saturating_add(span));
+    }
+
+    /// Whether nothing came from a subscriber for as long as the log counts one as there, or nearly so long: the log's clock is
+    /// another one.
+    fn is_silent(&self) -> bool {
+        let since = ticks(&self.clock).saturating_sub(self.met);
+        since > self.timeout - self.timeout / 8
+    }
+
+    /// A SETUP is sent. Where nobody is there, it announces from where on the stream may be taken up.
+    fn note_setup(&mut self, setup: Setup) {
+        count(&self.notes.setups);
+        self.setup = Some(setup);
+        if !self.is_silent() {
+            return;
+        }
+        if let Some(at) = self.position_of(
+            setup.session_id,
+            setup.stream_id,
+            setup.active_term_id,
+            setup.term_offset,
+        ) {
+            self.taken_up.announce(at);
         }
     }
 
@@ -121,14 +146,29 @@ impl<C: Clock> Watch<C> {
     fn note_sent(&mut self, bytes: &[u8]) {
         match Datagram::read(bytes) {
             Ok(Packet::Data(frames)) => self.note_data(frames),
-            Ok(Packet::Setup(setup)) => self.setup = Some(setup),
-            Ok(Packet::Nak(_)) => count(&self.notes.asked),
+            Ok(Packet::Setup(setup)) => self.note_setup(setup),
             _ => {}
         }
     }
 
-    /// A subscriber says how far it has come.
+    /// It is handed on, for the client to look at.
+    fn hear(&mut self, heard: Heard) {
+        let now = ticks(&self.clock);
+        self.ear.hear(heard, now);
+    }
+
+    /// Something of a stream came from an address: it is handed on, or that it is of another stream.
+    fn hear_of(&mut self, stream: i32, from: Address, heard: Heard) {
+        if stream == self.stream {
+            self.hear(heard);
+        } else {
+            self.hear(Heard::OtherStream(from, stream));
+        }
+    }
+
+    /// A subscriber says how far it has come. A position that was not sent has no effect.
     fn note_status(&mut self, status: &StatusMessage, from: Address) {
+        self.hear_of(status.stream_id, from, Heard::Status(from));
         if status.flags.asks_for_setup() {
             return;
         }
@@ -140,19 +180,36 @@ impl<C: Clock> Watch<C> {
         ) else {
             return;
         };
-        self.reports.note(from, at, ticks(&self.clock));
-        if let Some(least) = self.reports.least() {
-            self.notes.consumed.store(least, Ordering::SeqCst);
+        if at > self.sent {
+            self.hear(Heard::NotSent(from));
+            return;
+        }
+        let now = ticks(&self.clock);
+        self.reports.note(from, at, now);
+        self.met = now;
+        let least = self.reports.least().unwrap_or(at);
+        if let Some(gap) = self.taken_up.take(status.session_id, at, least) {
+            count(&self.notes.gaps);
+            self.ear.hear(Heard::Gap(gap), now);
         }
     }
 
     /// A datagram came.
     fn note_read(&mut self, bytes: &[u8], from: Address) {
+        if self.reports.has(&from) {
+            self.met = ticks(&self.clock);
+        }
         match Datagram::read(bytes) {
             Ok(Packet::Sm(status)) => self.note_status(&status, from),
-            Ok(Packet::Nak(_)) => count(&self.notes.naks),
+            Ok(Packet::Nak(nak)) => self.hear_of(nak.stream_id, from, Heard::Nak(from)),
+            Ok(Packet::Setup(setup)) => {
+                self.hear_of(setup.stream_id, from, Heard::Setup(setup.session_id));
+            }
             Ok(_) => {}
-            Err(_) => count(&self.notes.bad),
+            Err(_) => {
+                count(&self.notes.bad);
+                self.hear(Heard::Unread(from));
+            }
         }
     }
 }
@@ -173,6 +230,9 @@ impl<W, C> Watched<W, C> {
         notes: Arc<Notes>,
         clock: C,
         reports: Reports,
+        ear: Ear,
+        stream: i32,
+        timeout: u64,
         unused: Option<Address>,
     ) -> Watched<W, C> {
         Watched {
@@ -181,8 +241,13 @@ impl<W, C> Watched<W, C> {
                 notes,
                 clock,
                 reports,
+                ear,
+                stream,
                 setup: None,
-                reached: 0,
+                sent: 0,
+                taken_up: TakenUp::new(),
+                met: 0,
+                timeout,
             },
             unused,
             failures: 0,
@@ -215,7 +280,10 @@ impl<W: Wire, C: Clock> Wire for Watched<W, C> {
                 self.watch.note_sent(bytes);
                 Ok(())
             }
-            Err(_) => Err(self.fail()),
+            Err(_) => {
+                self.watch.hear(Heard::SendFailed(*to));
+                Err(self.fail())
+            }
         }
     }
 
@@ -233,7 +301,10 @@ impl<W: Wire, C: Clock> Wire for Watched<W, C> {
                 Ok(Some((length, from)))
             }
             Ok(None) => Ok(None),
-            Err(_) => Err(self.fail()),
+            Err(_) => {
+                self.watch.hear(Heard::ReadFailed(*local));
+                Err(self.fail())
+            }
         }
     }
 

@@ -30,7 +30,7 @@ question_needs = record {
 
 abbrev pub talk_needs : List (List ℕ) → List (List ℕ × List ℕ) → Needs
 talk_needs numbers together = record {
-  texts = codes "policy" ∷ codes "as" ∷ codes "CHANNEL" ∷ [];
+  texts = codes "as" ∷ codes "CHANNEL" ∷ [];
   signed = codes "STREAM" ∷ [];
   numbers = numbers;
   together = together;
@@ -40,7 +40,7 @@ abbrev pub publish_needs : Needs
 publish_needs = talk_needs (codes "wait" ∷ codes "linger" ∷ []) []
 
 abbrev pub subscribe_needs : Needs
-subscribe_needs = talk_needs [] ((codes "control", codes "session") ∷ [])
+subscribe_needs = talk_needs (codes "wait" ∷ []) ((codes "control", codes "session") ∷ [])
 
 -- of each subcommand that asks what a policy says
 abbrev pub word_needs : Word → Needs
@@ -62,12 +62,38 @@ message_needs =
     ∷ (codes "decode", texts_alone (codes "KIND" ∷ codes "HEX" ∷ []))
     ∷ []
 
+abbrev pub serve_needs : Needs
+serve_needs = record {
+  texts = codes "policy" ∷ codes "folder" ∷ codes "mode" ∷ [];
+  signed = [];
+  numbers = codes "each" ∷ [];
+  together = [];
+}
+
+-- of each subcommand that serves, or speaks to a driver that serves
+abbrev pub serving_needs : List (List ℕ × Needs)
+serving_needs =
+    (codes "serve", serve_needs)
+    ∷ (codes "stat", texts_alone (codes "driver" ∷ []))
+    ∷ (codes "stop", texts_alone (codes "driver" ∷ []))
+    ∷ (codes "reload", texts_alone (codes "driver" ∷ []))
+    ∷ (codes "clients", texts_alone (codes "driver" ∷ []))
+    ∷ []
+
+abbrev pub run_needs : Needs
+run_needs = record {
+  texts = codes "policy" ∷ codes "as" ∷ [];
+  signed = [];
+  numbers = codes "turns" ∷ [];
+  together = [];
+}
+
 abbrev pub start_needs : List (List ℕ × Needs)
 start_needs =
-    (codes "run", record { texts = codes "policy" ∷ []; signed = []; numbers = codes "turns" ∷ []; together = [] })
+    (codes "run", run_needs)
     ∷ (codes "publish", publish_needs)
     ∷ (codes "subscribe", subscribe_needs)
-    ∷ []
+    ∷ serving_needs
 
 abbrev pub script_needs : List (List ℕ × Needs)
 script_needs = (codes "script", texts_alone (codes "FILE" ∷ [])) ∷ []

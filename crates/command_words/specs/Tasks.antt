@@ -16,6 +16,9 @@ use Rattle.command_words.specs.declared.policy_words.Question.{Question}
 use Rattle.command_words.specs.declared.policy_words.Word.{Word}
 use Rattle.command_words.specs.declared.policy_words.Word.TheVariants as words
 use Rattle.command_words.specs.declared.running_line.Join.{Join}
+use Rattle.command_words.specs.declared.serving_line.Doors.{Doors}
+use Rattle.command_words.specs.declared.serving_line.Order.{Order}
+use Rattle.command_words.specs.declared.serving_line.Order.TheVariants as orders
 use Rattle.command_words.specs.declared.running_line.Start.{Start}
 use Rattle.command_words.specs.declared.running_line.Start.TheVariants as starts
 use Rattle.command_words.specs.declared.running_line.Talk.{Talk}
@@ -39,7 +42,7 @@ abbrev pub asked_texts : Asked → Texts
 asked_texts asks.Check = []
 asked_texts asks.Show = []
 asked_texts (asks.Decide question) = question_texts question
-asked_texts (asks.Explain question) = question_texts question
+asked_texts (asks.Explain question near) = question_texts question
 asked_texts (asks.Lint strict soon) = (codes "soon", option_copied soon) ∷ []
 asked_texts (asks.Test cases) = (codes "CASES", Some cases.now) ∷ []
 asked_texts (asks.Table principal) = (codes "principal", option_copied principal) ∷ []
@@ -56,15 +59,26 @@ messages_texts (messages.Decode kind hex) = (codes "KIND", Some kind.now) ∷ (c
 
 abbrev pub talk_texts : Talk → Texts
 talk_texts talk =
-    (codes "policy", Some talk.policy.now) ∷ (codes "as", Some talk.principal.now) ∷ (codes "CHANNEL", Some talk.channel.now) ∷ []
+    (codes "policy", option_copied talk.policy) ∷ (codes "driver", option_copied talk.driver)
+    ∷ (codes "names", option_copied talk.names) ∷ (codes "as", Some talk.principal.now)
+    ∷ (codes "CHANNEL", Some talk.channel.now) ∷ []
 
 abbrev pub joined_texts : Option Join → Texts
 joined_texts join = (codes "control", option_map (λ j. j.control.now) join) ∷ []
 
+abbrev pub doors_texts : Doors → Texts
+doors_texts doors =
+    (codes "policy", Some doors.policy.now) ∷ (codes "names", option_copied doors.names)
+    ∷ (codes "folder", Some doors.folder.now) ∷ (codes "mode", Some doors.mode.now) ∷ []
+
 abbrev pub start_texts : Start → Texts
-start_texts (starts.Run policy tries) = (codes "policy", Some policy.now) ∷ []
-start_texts (starts.Publish talk by wait linger) = talk_texts talk
-start_texts (starts.Subscribe talk join count raw until_gone) = joined_texts join ++ talk_texts talk
+start_texts (starts.Run policy names principal tries) =
+    (codes "policy", Some policy.now) ∷ (codes "names", option_copied names) ∷ (codes "as", Some principal.now) ∷ []
+start_texts (starts.Publish talk by wait linger to) = talk_texts talk
+start_texts (starts.Subscribe talk join reading) = joined_texts join ++ talk_texts talk
+start_texts (starts.Serve doors) = doors_texts doors
+start_texts (starts.Stat driver every) = (codes "driver", Some driver.now) ∷ []
+start_texts (starts.Order driver order) = (codes "driver", Some driver.now) ∷ []
 
 abbrev pub task_texts : Task → Texts
 task_texts (tasks.Ask asking) = asking_texts asking
@@ -77,16 +91,19 @@ stream_alone stream = (codes "STREAM", Some stream) ∷ []
 
 abbrev pub asked_numbers : Asked → Numbers
 asked_numbers (asks.Decide question) = stream_alone question.stream
-asked_numbers (asks.Explain question) = stream_alone question.stream
+asked_numbers (asks.Explain question near) = stream_alone question.stream
 asked_numbers _ = []
 
 abbrev pub joined_numbers : Option Join → Numbers
 joined_numbers join = (codes "session", option_map (λ j. j.session) join) ∷ []
 
 abbrev pub start_numbers : Start → Numbers
-start_numbers (starts.Run policy tries) = []
-start_numbers (starts.Publish talk by wait linger) = stream_alone talk.stream
-start_numbers (starts.Subscribe talk join count raw until_gone) = joined_numbers join ++ stream_alone talk.stream
+start_numbers (starts.Run policy names principal tries) = []
+start_numbers (starts.Publish talk by wait linger to) = stream_alone talk.stream
+start_numbers (starts.Subscribe talk join reading) = joined_numbers join ++ stream_alone talk.stream
+start_numbers (starts.Serve doors) = []
+start_numbers (starts.Stat driver every) = []
+start_numbers (starts.Order driver order) = []
 
 abbrev pub task_numbers : Task → Numbers
 task_numbers (tasks.Ask asking) = asked_numbers asking.asked
@@ -113,7 +130,7 @@ abbrev pub asked_word : Asked → Word
 asked_word asks.Check = words.Check
 asked_word asks.Show = words.Show
 asked_word (asks.Decide question) = words.Decide
-asked_word (asks.Explain question) = words.Explain
+asked_word (asks.Explain question near) = words.Explain
 asked_word (asks.Lint strict soon) = words.Lint
 asked_word (asks.Test cases) = words.Test
 asked_word (asks.Table principal) = words.Table
@@ -123,10 +140,18 @@ abbrev pub messages_name : Messages → List ℕ
 messages_name (messages.Encode words) = codes "encode"
 messages_name (messages.Decode kind hex) = codes "decode"
 
+abbrev pub order_name : Order → List ℕ
+order_name orders.Stop = codes "stop"
+order_name orders.Reload = codes "reload"
+order_name orders.Status = codes "clients"
+
 abbrev pub start_name : Start → List ℕ
-start_name (starts.Run policy tries) = codes "run"
-start_name (starts.Publish talk by wait linger) = codes "publish"
-start_name (starts.Subscribe talk join count raw until_gone) = codes "subscribe"
+start_name (starts.Run policy names principal tries) = codes "run"
+start_name (starts.Publish talk by wait linger to) = codes "publish"
+start_name (starts.Subscribe talk join reading) = codes "subscribe"
+start_name (starts.Serve doors) = codes "serve"
+start_name (starts.Stat driver every) = codes "stat"
+start_name (starts.Order driver order) = order_name order
 
 abbrev pub task_name : Task → List ℕ
 task_name (tasks.Ask asking) = word_name (asked_word asking.asked)

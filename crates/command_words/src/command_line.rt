@@ -9,6 +9,7 @@ ghost use Rattle.std.specs.Prelude.{◌≡◌, ℕ, IfSome, List, Some, codes, i
 use crate::message_words::{Messages, messages_in, with_messages};
 use crate::policy_words::{Asking, asking_in, with_policies};
 use crate::running_line::{self, Start};
+use crate::serving_line::with_serving;
 use clap::{Arg, ArgMatches, Command};
 use std::alloc::{AllocError, Global};
 
@@ -50,8 +51,7 @@ Example: may p1 subscribe to `aeron:ipc`, stream 10, under the policy in `policy
 
 `aeron_policyd script --help` shows scripts with their answers.
 
-Status: 0 for an answer; 1 after `aeron_policyd: FAULT` on standard error, and after a bad line of a script; 2 for a
-command line that is at fault.";
+Status: 0 for an answer; 1 after `aeron_policyd: FAULT` on standard error, and after a bad line of a script; 2 for a usage error.";
 
 /// Two scripts with their answers.
 const SCRIPT: &str = "\
@@ -136,7 +136,7 @@ went by last.
 Any other line answers `line N: bad line`, and ends the script.
 
 Status: 0 when the script ended; 1 after a bad line, and after `aeron_policyd: FAULT` on standard error (cannot read
-file, read failed, too long, write failed, no memory); 2 for a command line that is at fault.";
+file, read failed, too long, write failed, no memory); 2 for a usage error.";
 
 /// What the command line asks for.
 #[derive(Clone, Copy)]
@@ -181,7 +181,8 @@ pub fn command<'a>(alloc: Global) -> Result<Command<'a>, AllocError> {
     let command = with_messages(alloc, command)?;
     let command = with(command, running_line::run(alloc))?;
     let command = with(command, running_line::publish(alloc))?;
-    with(command, running_line::subscribe(alloc))
+    let command = with(command, running_line::subscribe(alloc))?;
+    with_serving(alloc, command)
 }
 
 fn script_task<'m, 'a>(of: &'m ArgMatches<'a>) -> Option<Task<'m>>

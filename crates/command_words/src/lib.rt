@@ -6,8 +6,10 @@ mod message_words;
 mod numbers;
 mod policy_words;
 mod running_line;
+mod serving_line;
 
 pub use command_line::{Task, command, task_in};
 pub use message_words::Messages;
 pub use policy_words::{Asked, Asking, Question};
-pub use running_line::{Join, Start, Talk};
+pub use running_line::{Join, Reading, Start, Talk};
+pub use serving_line::{Doors, Order};

@@ -38,7 +38,7 @@ brackets need not be given:
 Numbers are decimal; flags, key, token and payload are hexadecimal; channel and label are texts, or hexadecimal as channel-hex
 and label-hex.
 
-Status: 0; 1 after `aeron_policyd: FAULT` on standard error; 2 for a command line that is at fault.";
+Status: 0; 1 after `aeron_policyd: FAULT` on standard error; 2 for a usage error.";
 
 /// What `decode` says.
 const DECODE: &str = "\
@@ -52,7 +52,7 @@ Example: a reply that a script wrote, and the command that it answers.
 A command and a reply have one line, a datagram has one for each frame. What `encode` gave has the same fields again. Bytes
 that are no command, no reply or no datagram are refused with the driver's word for the cause.
 
-Status: 0; 1 after `aeron_policyd: FAULT` on standard error; 2 for a command line that is at fault.";
+Status: 0; 1 after `aeron_policyd: FAULT` on standard error; 2 for a usage error.";
 
 /// What is asked of a message.
 #[derive(Clone, Copy)]

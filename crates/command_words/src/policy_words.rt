@@ -7,18 +7,18 @@ ghost use Rattle.std.specs.List.{AllByRecursion};
 ghost use Rattle.std.specs.Prelude.{◌≡◌, ◌∷◌, [], IfSome, Some, codes, is_some, true};
 
 use crate::command_line::with;
-use crate::numbers::signed_in;
+use crate::numbers::{number_in, signed_in};
 use clap::{Arg, ArgAction, ArgMatches, Command, value_parser};
 use std::alloc::{AllocError, Global};
 
 /// What `check` says.
 const CHECK: &str = "\
-Example: a policy of two rules, and one whose first rule ends its range of streams before it begins.
+Example: a policy of two rules, and one whose first rule has its range of streams reversed.
 
   $ aeron_policyd check policy.toml
   ok: 2 rules
   $ aeron_policyd check swapped.toml
-  aeron_policyd: rule 1: bad range
+  aeron_policyd: swapped.toml:9:1: rule 1 (the house keeps streams 10 to 20): stream = [20, 10]: the range is reversed: wanted [LOW, HIGH]
 
 A policy is TOML: `version = 1`, `default = \"allow\"` or `\"deny\"`, and any `[[rule]]` with `name`, `principal`, `act`,
 `channel`, `allow` and perhaps `stream = [LOW, HIGH]`. With `version = 2` a rule may hold from `from` on and up to `until`, in
@@ -27,12 +27,15 @@ nanoseconds since 1970. Principals are `nobody` and `p1` to `p63`, or `*` for ev
 With --names FILE principals have the names of that file, whose lines are `principal NAME NUMBER` as in a script.
 
   $ aeron_policyd check named.toml
-  aeron_policyd: rule 1: unknown principal
+  aeron_policyd: named.toml:6:1: rule 1 (the gateway publishes orders): principal = \"gateway\": no such principal
   $ aeron_policyd check --names desk.names named.toml
   ok: 1 rules
 
-Status: 0; 1 after `aeron_policyd: FAULT` on standard error: cannot read file, read failed, too long, the first fault of
-the names or of the policy, write failed, or no memory; 2 for a command line that is at fault.";
+The fault is the first one that `lint` reports; where there are more, the line ends in `see: aeron_policyd lint FILE`. With --json
+the answer is `{\"rules\":2}`.
+
+Status: 0; 1 after `aeron_policyd: FAULT` on standard error: a file that can't be read, or is larger than 16 MiB; the first
+fault of the names or of the policy; write failed; no memory. 2 for a usage error.";
 
 /// What `decide` says.
 const DECIDE: &str = "\
@@ -45,7 +48,7 @@ Example: rule 1 of the policy denies everybody streams 10 to 20; rule 2 allows p
   $ aeron_policyd decide policy.toml p2 subscribe aeron:ipc 9
   denied by default in policy 1
   $ aeron_policyd decide policy.toml p64 subscribe aeron:ipc 9
-  aeron_policyd: unknown principal
+  aeron_policyd: p64: unknown principal
 
 The first rule that matches decides, whatever the others say; where none does, the default stands. Acts are publish,
 publish-exclusive, subscribe, spy, destination, counter, terminate, offer, image, receive, send, retransmit, join
@@ -65,9 +68,13 @@ With --at MOMENT it is asked at that moment, a number of nanoseconds since 1970 
   $ aeron_policyd decide --names desk.names operating/hours.toml gateway publish aeron:ipc 1010
   denied by default in policy 1
 
-Status: 0; 1 after `aeron_policyd: FAULT` on standard error, the first of: cannot read file, read failed, too long, a
-fault of the names or of the policy, unknown principal, unknown act, invalid channel; or write failed, or no memory; 2
-for a command line that is at fault.";
+With --json the answer is an object, whose `rule` is null where the default decides.
+
+  $ aeron_policyd decide --json policy.toml p1 subscribe aeron:ipc 9
+  {\"allow\":true,\"policy\":1,\"rule\":2}
+
+Status: 0, whatever the policy decides; 1 after `aeron_policyd: FAULT` on standard error, the first of: a fault of a file, as
+`check` has it; unknown principal; unknown act; invalid channel; write failed; no memory. 2 for a usage error.";
 
 /// What `show` says.
 const SHOW: &str = "\
@@ -87,11 +94,11 @@ which it does stand before the word:
   2  the pricer publishes telemetry                     pricer      publish,offer            aeron:ipc  3000..3019  always                      allow
   default deny
 
-With --names FILE principals have the names of that file, whose lines are `principal NAME NUMBER` as in a script, in place
-of p1 to p63. A principal that has no name there is written by its number, as `#7`.
+With --names FILE principals have the names of that file, whose lines are `principal NAME NUMBER` as in a script, instead of p1
+to p63. A principal that has no name there is written by its number, as `#7`. With --json the answer is an object with the
+rules and the default.
 
-Status: 0; 1 after `aeron_policyd: FAULT` on standard error: those of `check`, or a fault of the names, as `names: line 3:
-bad line`; 2 for a command line that is at fault.";
+Status: 0; 1 after `aeron_policyd: FAULT` on standard error, as of `check`; 2 for a usage error.";
 
 /// What `explain` says.
 const EXPLAIN: &str = "\
@@ -107,7 +114,7 @@ Example: may p1 subscribe to `aeron:ipc`, stream 9, may p2, and why?
   rule 1, the house keeps streams 10 to 20: the stream does not match
   rule 2, p1 reads in this host: the principal does not match
   $ aeron_policyd explain policy.toml p1 subscribe 'aeron:udp?endpoint=10.0.0.1:99999' 9
-  aeron_policyd: invalid channel: bad value of endpoint
+  aeron_policyd: aeron:udp?endpoint=10.0.0.1:99999: invalid channel: bad value of endpoint
 
 The first line is what `decide` says. Of each rule before the one that decides, the first part that does not match is
 named: the principal, the act, the medium or a key of the channel, or the stream. Of a rule that does not hold at the moment of
@@ -119,8 +126,17 @@ named: the principal, the act, the medium or a key of the channel, or the stream
   rule 1, the contractor reads telemetry to the end of 2026: the moment does not match
   rule 2, the pricer publishes telemetry: the principal does not match
 
-Status: 0, whatever the policy decides; 1 after `aeron_policyd: FAULT` on standard error: those of `decide`, a fault of the
-names, or `invalid channel:` with its cause; 2 for a command line that is at fault.";
+With --near N only the N rules that come nearest to a match are named: those first of which one part does not match, then those
+of which two do not, and so on.
+
+  $ aeron_policyd explain --near 1 policy.toml p2 subscribe aeron:ipc 9
+  denied by default in policy 1
+  no rule matches
+  rule 1, the house keeps streams 10 to 20: the stream does not match
+
+With --json the answer is an object with the decision and with `misses`, a list of these rules.
+
+Status: 0, whatever the policy decides; 1 after `aeron_policyd: FAULT` on standard error, as of `decide`; 2 for a usage error.";
 
 /// What `test` says.
 const TEST: &str = "\
@@ -136,17 +152,18 @@ Example: four questions with the answers that are wanted, one of which the polic
   line 5: p2 subscribe aeron:ipc 10 deny by default: denied by rule 1 in policy 1
   3 passed, 1 failed
 
-A case is a question, the word that is wanted, and perhaps by what: the number of a rule, or the default. Words have spaces
-between them, one or more. Empty lines, and those that begin with `#`, say nothing. With --at all are asked at that moment:
+A case is a question, the word that is wanted, and perhaps by what: the number of a rule, its name in quotes, or the default.
+Words have spaces between them, one or more. Principals and acts may be several, with commas between them, and streams a range,
+as 10..20; `*` is each act, or each stream. Then all of it has to be decided so. Empty lines, and those that begin with `#`, say
+nothing. With --at all are asked at that moment:
 
   $ aeron_policyd test --names desk.names --at 2026-12-01T08:00:00Z operating/hours.toml operating/hours.cases
   3 passed, 0 failed
   $ aeron_policyd test --names desk.names --at 2026-12-01T18:00:00Z operating/hours.toml operating/after_hours.cases
   3 passed, 0 failed
 
-Status: 0 where each case passes; 1 where one fails, and after `aeron_policyd: FAULT` on standard error: those of `check`, a
-fault of the names, or the first line that is no case, as `cases: line 5: unknown act`; 2 for a command line that is at
-fault.";
+Status: 0 where each case passes; 1 where one fails, and after `aeron_policyd: FAULT` on standard error: those of `check`, the
+first line that is no case, as `wanted.cases:5:4: unknown act`, or that there is no case; 2 for a usage error.";
 
 /// What `lint` says.
 const LINT: &str = "\
@@ -155,7 +172,7 @@ Example: nothing is wrong with one policy, and a range of another one ends befor
   $ aeron_policyd lint policy.toml
   no faults, no warnings
   $ aeron_policyd lint swapped.toml
-  swapped.toml:9:1: error: rule 1 (the house keeps streams 10 to 20): stream = [20, 10]: wanted a low end not above the high one, both within 32 bits
+  swapped.toml:9:1: error: rule 1 (the house keeps streams 10 to 20): stream = [20, 10]: the range is reversed: wanted [LOW, HIGH]
   1 fault, no warnings
 
 All faults are said, each with the line and the column of its key. Where there is none, warnings are of rules that are
@@ -171,9 +188,11 @@ rule that is over is one too, as of now or of the moment of --at; and with --soo
   operating/contractor.toml:10:1: warning: rule 1 (the contractor reads telemetry to the end of 2026): is over since 2027-01-01T00:00:00Z
   no faults, 1 warning
 
-Status: 0; 1 where there is a fault, and with --strict also where there is a warning, and after `aeron_policyd: FAULT` on
-standard error: no clock, cannot read file, read failed, too long, a fault of the names, write failed, or no memory; 2 for a
-command line that is at fault.";
+With --json the answer is an object with the faults and the warnings, each with its line and its column.
+
+Status: 0; 1 where there is a fault, with --strict also where there is a warning, and after `aeron_policyd: FAULT` on standard
+error: no clock; a file that can't be read, or is larger than 16 MiB; a fault of the names; write failed; no memory. 2 for a usage
+error.";
 
 /// What `table` says.
 const TABLE: &str = "\
@@ -197,26 +216,32 @@ others. Rules that do not hold at the moment of --at, which is 0 if none is give
   $ aeron_policyd table --names desk.names --at 2026-12-01T18:00:00Z --principal gateway operating/hours.toml
   0 rows
 
-Status: 0; 1 after `aeron_policyd: FAULT` on standard error: those of `check`, a fault of the names, or unknown principal;
-2 for a command line that is at fault.";
+Rows are printed as they are made. More than a million are refused before the first.
+
+Status: 0; 1 after `aeron_policyd: FAULT` on standard error: those of `check`, unknown principal, or too many rows; 2 for a usage
+error.";
 
 /// What `diff` says.
 const DIFF: &str = "\
-Example: what would be decided otherwise under open.toml than under policy.toml?
+Example: which decisions differ between policy.toml and open.toml?
 
   $ aeron_policyd diff policy.toml open.toml
-  *  *  *  10..20  deny by rule 1 (the house keeps streams 10 to 20) -> allow by default  p2 publish aeron:ipc 10
-  *  *  *  *       deny by default -> allow by default                                    p2 publish aeron:ipc 0
-  2 rows differ
+  *  *                                                                                            *  10..20  deny by rule 1 (the house keeps streams 10 to 20) -> allow by default  p2 publish aeron:ipc 10
+  *  publish,publish-exclusive,spy,destination,counter,terminate,offer,send,retransmit,join,list  *  ..9     deny by default -> allow by default                                    p2 publish aeron:ipc 0
+  *  publish,publish-exclusive,spy,destination,counter,terminate,offer,send,retransmit,join,list  *  21..    deny by default -> allow by default                                    p2 publish aeron:ipc 21
+  *  subscribe,image,receive                                                                      *  ..9     deny by default -> allow by default                                    p2 subscribe aeron:udp 0
+  *  subscribe,image,receive                                                                      *  21..    deny by default -> allow by default                                    p2 subscribe aeron:udp 21
+  5 rows differ
 
-Each row is of what decides under the old policy and under the new one, a rule or the default, with different words: the
-principal, the acts, the channels and the streams of which both speak, the change, and a request as an example, where one is
-found. A request that one policy allows and the other denies is in a row. A row without an example may be one that no request
-has. Both policies are looked at at the moment of --at, which is 0 if none is given: at other ones other requests may differ.
+Each row is of what decides under the old policy and under the new one, a rule or the default, with different words. It has whose
+requests it is of, the acts, the channels, the streams, the change, and a request as an example, on whose channel all requests of
+the row are decided so. Where no example is found, a row says `may differ`. A request that one policy allows and the other denies
+is in a row. Requests are those of a principal, of everybody (*), of all but one, or of all others, whom no rule names. Both
+policies are looked at at the moment of --at, which is 0 if none is given: at other ones other requests may differ.
 
 Status: 0 where nothing would be decided otherwise; 1 where something would, and after `aeron_policyd: FAULT` on standard
-error: those of `check`, for the old policy and then for the new one, or a fault of the names; 2 for a command line that is at
-fault.";
+error: those of `check`, for the old policy and then for the new one; 2 for a usage error; 4 where
+there are rows, and each only may differ.";
 
 /// What is asked of a policy.
 #[derive(Clone, Copy)]
@@ -227,14 +252,22 @@ pub enum Asked<'a> {
     Show,
     /// What it decides of a question.
     Decide(Question<'a>),
-    /// What it decides of a question, and why.
-    Explain(Question<'a>),
+    /// What it decides of a question, and why; of so many rules at most, those that fit best, if a number is given.
+    Explain {
+        question: Question<'a>,
+        near: Option<u64>,
+    },
     /// What is wrong with it, or likely not meant; whether a warning counts as a fault, and how soon a rule has to end for one.
-    Lint { strict: bool, soon: Option<&'a str> },
+    Lint {
+        strict: bool,
+        soon: Option<&'a str>,
+    },
     /// Whether it gives the answers that the cases in a file want.
     Test(&'a str),
     /// Who may do what under it; of one principal, if one is named.
-    Table { principal: Option<&'a str> },
+    Table {
+        principal: Option<&'a str>,
+    },
     /// What would be decided otherwise under the policy in another file.
     Diff(&'a str),
 }
@@ -257,6 +290,8 @@ pub struct Asking<'a> {
     pub names: Option<&'a str>,
     /// The moment at which it is asked, where one is given.
     pub at: Option<&'a str>,
+    /// Whether the answer is JSON.
+    pub json: bool,
     pub asked: Asked<'a>,
 }
 
@@ -272,7 +307,7 @@ fn names_file<'a>(alloc: Global) -> Arg<'a> {
     Arg::new(alloc, "names")
         .long("names")
         .value_name("FILE")
-        .help("Names of principals, lines `principal NAME NUMBER`, in place of p1 to p63")
+        .help("Names of principals, lines `principal NAME NUMBER`, instead of p1 to p63")
 }
 
 /// The option that names the moment at which a policy is asked.
@@ -299,11 +334,29 @@ fn soon<'a>(alloc: Global) -> Arg<'a> {
         )
 }
 
+/// The option that wants JSON.
+fn json<'a>(alloc: Global) -> Arg<'a> {
+    Arg::new(alloc, "json")
+        .long("json")
+        .action(ArgAction::SetTrue)
+        .help("Prints the answer as JSON, on one line")
+}
+
+/// The option that names how many rules are explained at most.
+fn near<'a>(alloc: Global) -> Arg<'a> {
+    Arg::new(alloc, "near")
+        .long("near")
+        .value_name("N")
+        .value_parser(value_parser!(u64).range(0..=1024))
+        .help("Names only the N rules that come nearest to a match, nearest first")
+}
+
 fn check<'a>(alloc: Global) -> Result<Command<'a>, AllocError> {
     Command::new(alloc, "check")
-        .about("Says how many rules a policy has, or its first fault")
+        .about("Validates a policy: says how many rules it has, or its first fault")
         .after_help(CHECK)
         .arg(policy_file(alloc))?
+        .arg(json(alloc))?
         .arg(names_file(alloc))
 }
 
@@ -341,12 +394,13 @@ fn with_question<'a>(alloc: Global, command: Command<'a>) -> Result<Command<'a>,
         .arg(channel(alloc))?
         .arg(stream(alloc))?
         .arg(at(alloc))?
+        .arg(json(alloc))?
         .arg(names_file(alloc))
 }
 
 fn decide<'a>(alloc: Global) -> Result<Command<'a>, AllocError> {
     let command = Command::new(alloc, "decide")
-        .about("Says what a policy decides of a question, and by which rule")
+        .about("Says what a policy decides of a request, and by which rule")
         .after_help(DECIDE);
     with_question(alloc, command)
 }
@@ -356,14 +410,15 @@ fn show<'a>(alloc: Global) -> Result<Command<'a>, AllocError> {
         .about("Lists the rules of a policy with their numbers")
         .after_help(SHOW)
         .arg(policy_file(alloc))?
+        .arg(json(alloc))?
         .arg(names_file(alloc))
 }
 
 fn explain<'a>(alloc: Global) -> Result<Command<'a>, AllocError> {
     let command = Command::new(alloc, "explain")
-        .about("Says what a policy decides of a question, and why")
+        .about("Says what a policy decides of a request, and why")
         .after_help(EXPLAIN);
-    with_question(alloc, command)
+    with_question(alloc, command)?.arg(near(alloc))
 }
 
 fn test<'a>(alloc: Global) -> Result<Command<'a>, AllocError> {
@@ -371,11 +426,12 @@ fn test<'a>(alloc: Global) -> Result<Command<'a>, AllocError> {
         .required(true)
         .help("The file of the cases, of at most 16,777,216 bytes");
     Command::new(alloc, "test")
-        .about("Says which of the wanted answers a policy does not give")
+        .about("Runs test cases against a policy")
         .after_help(TEST)
         .arg(policy_file(alloc))?
         .arg(cases)?
         .arg(at(alloc))?
+        .arg(json(alloc))?
         .arg(names_file(alloc))
 }
 
@@ -385,12 +441,13 @@ fn lint<'a>(alloc: Global) -> Result<Command<'a>, AllocError> {
         .action(ArgAction::SetTrue)
         .help("Ends with status 1 where there is a warning, too");
     Command::new(alloc, "lint")
-        .about("Says all that is wrong with a policy, and what is likely not meant")
+        .about("Reports errors and suspicious rules")
         .after_help(LINT)
         .arg(policy_file(alloc))?
         .arg(strict)?
         .arg(looked_at(alloc))?
         .arg(soon(alloc))?
+        .arg(json(alloc))?
         .arg(names_file(alloc))
 }
 
@@ -405,6 +462,7 @@ fn table<'a>(alloc: Global) -> Result<Command<'a>, AllocError> {
         .arg(policy_file(alloc))?
         .arg(principal)?
         .arg(at(alloc))?
+        .arg(json(alloc))?
         .arg(names_file(alloc))
 }
 
@@ -413,11 +471,12 @@ fn diff<'a>(alloc: Global) -> Result<Command<'a>, AllocError> {
         "The file of the policy that would take its place, of at most 16,777,216 bytes",
     );
     Command::new(alloc, "diff")
-        .about("Says what would be decided otherwise under another policy")
+        .about("Shows which decisions differ between two policies")
         .after_help(DIFF)
         .arg(policy_file(alloc))?
         .arg(new)?
         .arg(at(alloc))?
+        .arg(json(alloc))?
         .arg(names_file(alloc))
 }
 
@@ -491,7 +550,10 @@ fn asked_in<'m, 'a>(word: Word, of: &'m ArgMatches<'a>) -> Option<Asked<'m>>
         Word::Check => Asked::Check,
         Word::Decide => Asked::Decide(question_in(of)?),
         Word::Show => Asked::Show,
-        Word::Explain => Asked::Explain(question_in(of)?),
+        Word::Explain => Asked::Explain {
+            question: question_in(of)?,
+            near: number_in(of, "near"),
+        },
         Word::Lint => Asked::Lint {
             strict: of.get_flag("strict"),
             soon: of.get_str("soon"),
@@ -515,6 +577,7 @@ pub(crate) fn asking_in<'m, 'a>(name: &str, of: &'m ArgMatches<'a>) -> Option<As
         policy: of.get_str("POLICY")?,
         names: of.get_str("names"),
         at: of.get_str("at"),
+        json: of.get_flag("json"),
         asked,
     })
 }

@@ -1,0 +1,14 @@
+use Rattle.aeron_policyd.proofs.serving.serve_behind.Given as goal
+
+-- the parts that were just made
+abbrev pub ghosts-started-N-DriverNaming : goal.ghosts-started-N-DriverNaming
+ghosts-started-N-DriverNaming g a = record { book = a.parts.book }
+
+abbrev pub ghosts-started-N-Naming : goal.ghosts-started-N-Naming
+ghosts-started-N-Naming g a = record {
+  home = a.parts.home;
+  client_ledger = a.parts.client_ledger;
+  client_parts = a.parts.client_parts;
+  slot_ledger = a.parts.slot_ledger;
+  slot_parts = a.parts.slot_parts;
+}
