@@ -12,10 +12,12 @@
 #include <unistd.h>
 
 /* Requests and answers, by their kinds. */
-enum { COMMAND = 1, OFFER = 2, POLL = 3, MAIL = 4, LIST = 5, VALUE = 6 };
-enum { WELCOME = 0x101, REPLY, TAKEN, REFUSED, FRAGMENT, DONE, ROW, VALUE_IS, BYE };
+enum { COMMAND = 1, OFFER = 2, MAIL = 4, LIST = 5, VALUE = 6, POLL_ALL = 10, PUBLICATION_POSITIONS = 11, IMAGE_POSITIONS = 12 };
+enum {
+    WELCOME = 0x101, REPLY, TAKEN, REFUSED, FRAGMENT, DONE, ROW, VALUE_IS, BYE, LINE, PART, PART_REFUSED, PUBLICATION_IS, IMAGE_IS
+};
 
-enum { VERSION = 1, HEAD = 8, OFFER_HEAD = 24, POLL_SIZE = 32, MAIL_SIZE = 12, COMMAND_HEAD = 28 };
+enum { VERSION = 1, HEAD = 8, OFFER_HEAD = 24, POLL_HEAD = 16, PAIR_SIZE = 16, MAIL_SIZE = 12, COMMAND_HEAD = 28 };
 
 /* How long a record is at most, without its length. */
 #define LONGEST 16777280u
@@ -25,6 +27,9 @@ enum { VERSION = 1, HEAD = 8, OFFER_HEAD = 24, POLL_SIZE = 32, MAIL_SIZE = 12, C
 
 /* Of how many parts a command is at most. */
 enum { PARTS = 5 };
+
+/* How many images one POLL_ALL names at most. */
+enum { PAIRS = 64 };
 
 /* How many offers stand in one call of the system, and how many offers or bytes are sent before their answers are read. */
 enum { AT_ONCE = 64, AHEAD = 256, AHEAD_BYTES = 262144 };
@@ -727,7 +732,7 @@ int apd_remove_subscription(struct apd_driver *driver, struct apd_subscription *
 
 /* ---- polls */
 
-/* A round of polls: one for each image, and then the mail. */
+/* A round of polls: one of each image, and then the mail. */
 struct round {
     struct apd_subscription *subscription;
     uint32_t limit;
@@ -747,28 +752,27 @@ static struct apd_image *image_at(const struct round *round, size_t place)
     return &subscription->images[(subscription->turn + place) % subscription->count];
 }
 
+/* How many images a round polls. */
+static size_t images_of(const struct round *round)
+{
+    size_t count = round->subscription->count;
+    return count < PAIRS ? count : PAIRS;
+}
+
 static int send_polls(struct apd_driver *driver, const struct round *round)
 {
-    unsigned char requests[AT_ONCE * POLL_SIZE + MAIL_SIZE];
-    size_t count = round->subscription->count;
-    for (size_t first = 0; first < count; first += AT_ONCE) {
-        size_t some = count - first < AT_ONCE ? count - first : AT_ONCE;
-        unsigned char *at = requests;
-        for (size_t i = 0; i < some; i++, at += POLL_SIZE) {
-            put_head(at, POLL, POLL_SIZE - HEAD);
-            put32(at + 8, round->limit);
-            put32(at + 12, round->wait_ms);
-            put64(at + 16, round->subscription->registration);
-            put64(at + 24, image_at(round, first + i)->source);
-        }
-        if (first + some == count) {
-            put_mail(at, 0);
-            at += MAIL_SIZE;
-        }
-        int status = send_bytes(driver, requests, (size_t)(at - requests));
-        if (status != APD_OK) return status;
+    unsigned char requests[POLL_HEAD + PAIRS * PAIR_SIZE + MAIL_SIZE];
+    size_t count = images_of(round);
+    unsigned char *at = requests + POLL_HEAD;
+    put_head(requests, POLL_ALL, POLL_HEAD - HEAD + count * PAIR_SIZE);
+    put32(requests + 8, round->limit);
+    put32(requests + 12, round->wait_ms);
+    for (size_t i = 0; i < count; i++, at += PAIR_SIZE) {
+        put64(at, round->subscription->registration);
+        put64(at + 8, image_at(round, i)->source);
     }
-    return APD_OK;
+    put_mail(at, 0);
+    return send_bytes(driver, requests, (size_t)(at + MAIL_SIZE - requests));
 }
 
 /* A poll was refused. */
@@ -778,7 +782,7 @@ static int poll_refused(struct apd_driver *driver, struct round *round, struct a
     int status = refused(driver, answer);
     if (status != APD_REFUSED) return status;
     round->refusals++;
-    if (driver->code == APD_CODE_CLOSED) {
+    if (driver->code == APD_CODE_CLOSED && image != NULL) {
         image->closed = 1;
     } else if (driver->code != APD_CODE_NO_LOOK) {
         round->denied = driver->code;
@@ -787,24 +791,42 @@ static int poll_refused(struct apd_driver *driver, struct round *round, struct a
     return APD_OK;
 }
 
-/* Reads the answer to the poll of an image. */
-static int read_poll(struct apd_driver *driver, struct round *round, struct apd_image *image)
+/* Hands a fragment of an image over. */
+static int hand_over(struct apd_driver *driver, struct round *round, const struct apd_image *image,
+                     const struct answer *answer)
+{
+    struct apd_fragment fragment;
+    if (answer->size < 12) return protocol(driver, "no fragment");
+    fragment.source = image->source;
+    fragment.position = get64(answer->body);
+    fragment.flags = get32(answer->body + 8);
+    fragment.payload = answer->body + 12;
+    fragment.size = answer->size - 12;
+    round->fragments++;
+    round->on_fragment(round->context, &fragment);
+    return APD_OK;
+}
+
+/* Reads what the images gave: the place of each stands before it. */
+static int read_polls(struct apd_driver *driver, struct round *round)
 {
     struct answer answer;
-    struct apd_fragment fragment;
+    struct apd_image *image = NULL;
     for (;;) {
         int status = receive(driver, &answer);
         if (status != APD_OK) return status;
         if (answer.kind == DONE) return APD_OK;
-        if (answer.kind == REFUSED) return poll_refused(driver, round, image, &answer);
-        if (answer.kind != FRAGMENT || answer.size < 12) return protocol(driver, "no answer to a poll");
-        fragment.source = image->source;
-        fragment.position = get64(answer.body);
-        fragment.flags = get32(answer.body + 8);
-        fragment.payload = answer.body + 12;
-        fragment.size = answer.size - 12;
-        round->fragments++;
-        round->on_fragment(round->context, &fragment);
+        if (answer.kind == PART && answer.size == 4 && get32(answer.body) < images_of(round))
+            image = image_at(round, get32(answer.body));
+        else if (answer.kind == FRAGMENT && image != NULL)
+            status = hand_over(driver, round, image, &answer);
+        else if (answer.kind == PART_REFUSED && image != NULL)
+            status = poll_refused(driver, round, image, &answer);
+        else if (answer.kind == REFUSED)
+            return poll_refused(driver, round, NULL, &answer);
+        else
+            return protocol(driver, "no answer to a poll");
+        if (status != APD_OK) return status;
     }
 }
 
@@ -824,8 +846,7 @@ static int poll_round(struct apd_driver *driver, struct round *round)
     round->refusals = 0;
     subscription->turn++;
     int status = send_polls(driver, round);
-    for (size_t i = 0; status == APD_OK && i < subscription->count; i++)
-        status = read_poll(driver, round, image_at(round, i));
+    if (status == APD_OK) status = read_polls(driver, round);
     if (status != APD_OK) return status;
     forget_closed(subscription);
     status = read_mail(driver);
@@ -840,9 +861,9 @@ static int poll_once(struct apd_driver *driver, struct round *round, uint64_t en
 {
     size_t count = round->subscription->count;
     if (count == 0) return take_mail(driver, left_ms(end, 1000));
-    round->wait_ms = count == 1 ? left_ms(end, GLANCE) : 0;
+    round->wait_ms = left_ms(end, GLANCE);
     int status = poll_round(driver, round);
-    if (status != APD_OK || round->fragments > 0 || (count == 1 && round->refusals == 0)) return status;
+    if (status != APD_OK || round->fragments > 0 || round->refusals == 0) return status;
     return take_mail(driver, left_ms(end, 1));
 }
 
@@ -936,5 +957,51 @@ int apd_value(struct apd_driver *driver, uint64_t number, int64_t *value)
     if (answer.kind == REFUSED) return refused(driver, &answer);
     if (answer.kind != VALUE_IS || answer.size != 8) return protocol(driver, "no value");
     *value = signed64(get64(answer.body));
+    return APD_OK;
+}
+
+/* Sends a request, and takes the one record that answers it: of that kind and size, or a refusal. */
+static int ask(struct apd_driver *driver, const void *request, size_t size, uint32_t kind, size_t fields,
+               struct answer *answer)
+{
+    int status = send_bytes(driver, request, size);
+    if (status == APD_OK) status = receive(driver, answer);
+    if (status != APD_OK) return status;
+    if (answer->kind == REFUSED) return refused(driver, answer);
+    if (answer->kind != kind || answer->size != fields) return protocol(driver, "no positions");
+    return APD_OK;
+}
+
+int apd_publication_positions(struct apd_driver *driver, uint64_t registration, struct apd_publication_positions *positions)
+{
+    unsigned char request[HEAD + 8];
+    struct answer answer;
+    put_head(request, PUBLICATION_POSITIONS, 8);
+    put64(request + 8, registration);
+    int status = ask(driver, request, sizeof request, PUBLICATION_IS, 36, &answer);
+    if (status != APD_OK) return status;
+    uint32_t flags = get32(answer.body + 32);
+    positions->position = get64(answer.body);
+    positions->limit = get64(answer.body + 8);
+    positions->sent = get64(answer.body + 16);
+    positions->consumed = get64(answer.body + 24);
+    positions->connected = (flags & 1u) != 0;
+    positions->heard = (flags & 2u) != 0;
+    return APD_OK;
+}
+
+int apd_image_positions(struct apd_driver *driver, uint64_t subscription, uint64_t source,
+                        struct apd_image_positions *positions)
+{
+    unsigned char request[HEAD + 16];
+    struct answer answer;
+    put_head(request, IMAGE_POSITIONS, 16);
+    put64(request + 8, subscription);
+    put64(request + 16, source);
+    int status = ask(driver, request, sizeof request, IMAGE_IS, 24, &answer);
+    if (status != APD_OK) return status;
+    positions->joined = get64(answer.body);
+    positions->position = get64(answer.body + 8);
+    positions->received = get64(answer.body + 16);
     return APD_OK;
 }

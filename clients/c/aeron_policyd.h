@@ -231,6 +231,31 @@ int apd_list(struct apd_driver *driver, apd_on_row *on_row, void *context);
    APD_CODE_DENIED. */
 int apd_value(struct apd_driver *driver, uint64_t number, int64_t *value);
 
+/* How far a publication has come. */
+struct apd_publication_positions {
+    uint64_t position; /* after its last frame */
+    uint64_t limit;    /* from which on no offer is taken */
+    uint64_t sent;     /* up to which frames were sent in datagrams */
+    uint64_t consumed; /* up to which every receiver that is heard has taken the stream; 0 where none is */
+    int heard;         /* whether a receiver is heard */
+    int connected;     /* whether anybody takes what is offered */
+};
+
+/* Of a publication of this client. APD_OK, or * above: code APD_CODE_CLOSED, where there is no such publication of it. */
+int apd_publication_positions(struct apd_driver *driver, uint64_t registration, struct apd_publication_positions *positions);
+
+/* How far a subscription has come with a source. */
+struct apd_image_positions {
+    uint64_t joined;   /* where the stream is joined: what was before it is not there */
+    uint64_t position; /* up to which the subscription has read */
+    uint64_t received; /* up to which the stream is there without a gap */
+};
+
+/* Of a subscription of this client, by its registration, and a source that it reads. APD_OK, or * above: code APD_CODE_CLOSED,
+   where it does not read that source. */
+int apd_image_positions(struct apd_driver *driver, uint64_t subscription, uint64_t source,
+                        struct apd_image_positions *positions);
+
 /* Takes mail, and tells the driver that the client is there, as every call does that speaks to it. Call something at least
    several times within `liveness_ns`. APD_OK, or * above. */
 int apd_keepalive(struct apd_driver *driver);

@@ -138,8 +138,7 @@ def case_a_driver_stops(room):
             same("the last word", [(BYE, 1010, "stopped")], [(kind, code_of(body), words_of(body)) for kind, body in last])
     same("status of the driver", 0, room.ended(driver, 5))
     same("status of the subscriber", 1, room.ended(reader, 5))
-    for name in ("p1", "p2", "operator"):
-        need(not os.path.exists(room.at(name)), name, "is left")
+    same("what is left in the folder", [], os.listdir(room.folder))
     status, _, err = room.call("stop", "--driver", room.at("operator"))
     same("another stop", (1, "aeron_policyd: no driver serves there\n"), (status, err))
 

@@ -1,5 +1,7 @@
 """Many clients: at once, and one after another."""
 
+import os
+import signal
 import sys
 import time
 
@@ -57,6 +59,27 @@ def case_no_principal_takes_the_places_of_another(room):
         same("a client that is there", DONE, peer.ask(mail())[-1][0])
         peer.close()
     until("a place", lambda: told(room.at("p1"))[0] != BYE, 2)
+
+
+def case_a_crowd_at_a_door_is_answered_at_once(room):
+    """However many wait: those whom the driver does not come to in one go are not left for later."""
+    driver = room.serve("--each", "1")
+    with Peer(room.at("p1")) as one:
+        one.enter()
+        # all of them wait before the first one is answered
+        os.kill(driver.pid, signal.SIGSTOP)
+        try:
+            crowd = [Peer(room.at("p1")) for _ in range(65)]
+        finally:
+            os.kill(driver.pid, signal.SIGCONT)
+        begun = time.monotonic()
+        for peer in crowd:
+            kind, body = peer.receive()
+            same("one of the crowd", (BYE, 1003, "full"), (kind, code_of(body), words_of(body)))
+            peer.close()
+        took = time.monotonic() - begun
+        need(took < 0.3, "all of them are answered after", took)
+        same("the client that is there", DONE, one.ask(mail())[-1][0])
 
 
 def case_ten_thousand_connections_one_after_another(room):

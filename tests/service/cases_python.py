@@ -148,6 +148,25 @@ def case_many_messages_with_a_slow_reader(room):
     need(got == messages, "the messages differ:", len(got), "came")
 
 
+def case_positions_in_python(room):
+    """A term has 65,536 bytes, and a log takes half a term past its slowest reader."""
+    room.serve()
+    with aeron_policyd.connect(room.at("p1")) as one, aeron_policyd.connect(room.at("p2")) as two:
+        reads, publication = two.subscription("aeron:ipc", 10), one.publication("aeron:ipc", 10)
+        for words in (b"bid 99", b"ask 101", b"ask 102"):
+            publication.offer(words, wait=1.0)
+        same("the first", [b"bid 99"], [message.data for message in reads.poll(limit=1, wait=1.0)])
+        (image,) = reads.images
+        written = publication.positions()
+        same("the publication", aeron_policyd.PublicationPositions(192, 64 + 32_768, 0, None, True), written)
+        seen = reads.positions(image.source)
+        same("the image", aeron_policyd.ImagePositions(0, 64, 192), seen)
+        same("by name", (192, 32_832, 64, 192), (written.position, written.limit, seen.position, seen.received))
+        raised(aeron_policyd.Closed, reads.positions, 99)
+        publication.close()
+        raised(aeron_policyd.Closed, publication.positions)
+
+
 def case_a_reload_in_python(room):
     room.serve()
     with aeron_policyd.connect(room.at("p1")) as one, aeron_policyd.connect(room.at("p2")) as two:
@@ -184,7 +203,11 @@ def case_a_server_that_forges_in_python(room):
                 for _ in range(5):
                     reads.poll(wait=0.002)
                 driver.counters()
-                driver.publication("aeron:ipc", 11, wait=0.03).offer(b"x")
+                for image in reads.images:
+                    reads.positions(image.source)
+                publication = driver.publication("aeron:ipc", 11, wait=0.03)
+                publication.offer(b"x")
+                publication.positions()
                 driver.value(1)
             ends["none"] = ends.get("none", 0) + 1
         except aeron_policyd.ServiceError as error:

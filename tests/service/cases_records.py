@@ -11,10 +11,13 @@ from raw import (
     BYE,
     DONE,
     FRAGMENT,
+    IMAGE_POSITIONS,
     LAST,
     LIST,
     OFFER,
     POLL,
+    POLL_ALL,
+    PUBLICATION_POSITIONS,
     REFUSED,
     STATUS,
     STOP,
@@ -112,7 +115,7 @@ def with_client(data, client):
 def check_answers(what, answers):
     """Answers that are records of the protocol; BYE is the last one."""
     for kind, body in answers:
-        need(0x101 <= kind <= 0x10A, "after", what, "an answer of kind", kind)
+        need(0x101 <= kind <= 0x10E, "after", what, "an answer of kind", kind)
         if kind in (REFUSED, BYE):
             need(len(body) > 4 and all(32 <= byte < 127 for byte in body[4:]), "after", what, "a reason", body)
     need(BYE not in [kind for kind, _ in answers[:-1]], "after", what, "something after BYE")
@@ -200,14 +203,17 @@ def case_what_is_no_request_is_refused_by_its_fault(room):
             ((kind, body),) = peer.ask(request)
             same(what, (REFUSED, code, words), (kind, code_of(body), words_of(body)))
 
-        for kind in (0, 11, 99, 0x101, 0x104, 0x109, 0x7FFFFFFF, 0xFFFFFFFF):
+        for kind in (0, 13, 99, 0x101, 0x104, 0x109, 0x7FFFFFFF, 0xFFFFFFFF):
             refused("kind %d" % kind, record(kind, b"fields of any length"), 6, "unknown request")
         malformed = [struct.pack("<I", size) + b"\2\0\0"[:size] for size in range(4)]
         malformed += [record(OFFER, b"\0" * size) for size in (0, 4, 15)]
         malformed += [record(POLL, b"\0" * size) for size in (0, 23, 25)]
         malformed += [record(4, b"\0" * size) for size in (0, 3, 5)]
+        malformed += [record(POLL_ALL, b"\0" * size) for size in (0, 7, 9, 23, 25, 8 + 65 * 16)]
         malformed += [record(LIST, b"\0"), record(VALUE, b"\0" * 7), record(VALUE, b"\0" * 9)]
         malformed += [record(STOP, b"\0"), record(STATUS, b"\0")]
+        malformed += [record(PUBLICATION_POSITIONS, b"\0" * size) for size in (0, 7, 9)]
+        malformed += [record(IMAGE_POSITIONS, b"\0" * size) for size in (0, 15, 17)]
         for request in malformed:
             refused("the record %s" % request.hex(), request, 7, "malformed request")
         for kind in (7, 8, 9):

@@ -1,11 +1,38 @@
 """Processes that talk, and what the policy says of it."""
 
 import os
+import shutil
+import signal
+import socket
 import struct
 import threading
+import time
 
 from harness import ALLOW, TOP, Failed, need, said, same, until
-from raw import DONE, FRAGMENT, REFUSED, TAKEN, Peer, code_of, mail, offer, poll, publish, session, subscribe, words_of
+from raw import (
+    DONE,
+    FRAGMENT,
+    IMAGE_IS,
+    PART,
+    PART_REFUSED,
+    PUBLICATION_IS,
+    REFUSED,
+    TAKEN,
+    Peer,
+    code_of,
+    image_positions,
+    mail,
+    offer,
+    poll,
+    poll_all,
+    publication_positions,
+    publish,
+    publish_alone,
+    session,
+    subscribe,
+    unpublish,
+    words_of,
+)
 
 PRICES = "examples/serving/policy.toml"
 
@@ -20,6 +47,37 @@ def case_a_start_in_ten_lines(room):
     same("status", 0, status)
     same("what the desk prints", ["bid 99", "ask 101"], [line for line in out.splitlines() if line[:3] in ("bid", "ask")])
     need("aeron_policyd: denied by default in policy 1" in err.splitlines(), "no denial in", err)
+
+
+def case_the_tutorial(room):
+    """The steps of docs/TUTORIAL.md that need a driver, with another folder in place of /tmp/driver."""
+    os.mkdir(room.path + "/bin")
+    os.symlink(room.program, room.path + "/bin/aeron_policyd")
+    paths = dict(os.environ, PATH=room.path + "/bin:" + os.environ["PATH"])
+    where = room.path + "/tutorial"
+    shutil.copytree(os.path.join(TOP, "examples", "tutorial"), where)
+    for name in os.listdir(where):
+        with open(os.path.join(where, name), encoding="ascii") as file:
+            words = file.read()
+        with open(os.path.join(where, name), "w", encoding="ascii") as file:
+            file.write(words.replace("/tmp/driver", room.folder))
+    driver = room.start("sh", "start.sh", cwd=where, env=paths)
+    room.served(driver)
+    desk = room.start("sh", "desk.sh", cwd=where, env=paths)
+    same("status of the gateway", 0, room.run("sh", "gateway.sh", cwd=where, env=paths)[0])
+    same("status of the desk", 0, room.ended(desk))
+    same("what the desk reads", "bid 99\nask 101\n", said(desk.out))
+    status, out, err = room.run("sh", "monitor.sh", cwd=where, env=paths)
+    same("status of the monitor", 1, status)
+    same("what the monitor reads", "", out)
+    need("aeron_policyd: denied by default in policy 1" in err.splitlines(), "no denial in", err)
+    same("status of the reload", 0, room.run("sh", "reload.sh", cwd=where, env=paths)[0])
+    monitor = room.start("sh", "monitor.sh", cwd=where, env=paths)
+    same("status of the gateway", 0, room.run("sh", "gateway.sh", cwd=where, env=paths)[0])
+    same("status of the monitor", 0, room.ended(monitor))
+    same("what the monitor reads", "bid 99\nask 101\n", said(monitor.out))
+    same("status of the stop", 0, room.run("sh", "stop.sh", cwd=where, env=paths)[0])
+    same("status of the driver", 0, room.ended(driver))
 
 
 def case_two_processes(room):
@@ -144,7 +202,7 @@ def case_a_reload_cuts_a_reader_off(room):
         same("an offer", TAKEN, one.ask(offer(publication, b"before", wait=1000))[0][0])
         room.policy(WITHOUT)
         status, out, _ = room.call("reload", "--driver", room.at("operator"))
-        same("the reload", (0, "policy 2 in force\n"), (status, out))
+        same("the reload", (0, "policy 2 in force"), (status, out.split("\n")[0]))
         gone = struct.pack("<IQQi", 0x0F05, source, subscription, 10)
         until("ON_UNAVAILABLE_IMAGE", lambda: gone in two.replies(100))
         ((kind, body),) = two.ask(poll(subscription, source))
@@ -156,7 +214,8 @@ def case_a_reload_cuts_a_reader_off(room):
         # a policy with a fault changes nothing
         room.policy("version = 9\n")
         status, out, err = room.call("reload", "--driver", room.at("operator"))
-        same("the fault", (1, "", "aeron_policyd: bad version\n"), (status, out, err))
+        same("the fault", (1, ""), (status, out))
+        need(":1:1: version = 9: wanted 1 or 2; see: aeron_policyd lint " in err, err)
         same("a subscription after the fault", "denied by default in policy 2", two.commanded(subscribe, 12)[20:].decode())
         room.policy(ALLOW)
         room.call("reload", "--driver", room.at("operator"))
@@ -164,6 +223,32 @@ def case_a_reload_cuts_a_reader_off(room):
         same("an offer again", TAKEN, one.ask(offer(publication, b"after", seen=1, wait=1000))[0][0])
         answer = two.ask(poll(subscription, source, wait=1000))
         same("what is read", [b"after"], [body[12:] for kind, body in answer if kind == FRAGMENT])
+
+
+def differs(room, old, new):
+    """What `diff` says of two policies."""
+    paths = room.path + "/old.toml", room.path + "/new.toml"
+    for path, words in zip(paths, (old, new)):
+        with open(path, "w", encoding="ascii") as file:
+            file.write(words)
+    _, out, err = room.call("diff", *paths)
+    same("a fault of diff", "", err)
+    return out
+
+
+def case_a_reload_says_what_it_changes(room):
+    room.serve(policy=ALLOW)
+    need("differ" in differs(room, ALLOW, WITHOUT), "no difference")
+
+    def reload(policy):
+        room.policy(policy)
+        return room.call("reload", "--driver", room.at("operator"))
+
+    same("a reload", (0, "policy 2 in force\n" + differs(room, ALLOW, WITHOUT), ""), reload(WITHOUT))
+    same("the same text", (0, "policy 3 in force\nno difference\n", ""), reload(WITHOUT))
+    same("a fault", 1, reload("version = 9\n")[0])
+    # what is in force is compared, and not the text with the fault
+    same("another", (0, "policy 4 in force\n" + differs(room, WITHOUT, ALLOW), ""), reload(ALLOW))
 
 
 def case_a_policy_that_changes_on_disk(room):
@@ -177,7 +262,7 @@ def case_a_policy_that_changes_on_disk(room):
         until("ON_UNAVAILABLE_IMAGE", lambda: gone in two.replies(100), 5)
         until("the line", lambda: "policy 2 in force" in said(driver.err).splitlines(), 5)
         room.policy("version = 9\n")
-        until("the fault", lambda: "policy refused: bad version" in said(driver.err).splitlines(), 5)
+        until("the fault", lambda: ":1:1: version = 9: wanted 1 or 2; see: aeron_policyd lint " in said(driver.err), 5)
         same("a subscription after it", "denied by default in policy 2", two.commanded(subscribe, 12)[20:].decode())
 
 
@@ -214,9 +299,163 @@ def case_no_message_overtakes_a_refused_one(room):
         need(read == messages, "the messages differ")
 
 
-def case_a_wait_is_a_second_at_most(room):
-    import time
+def case_positions_of_a_log(room):
+    """Each to its owner alone, as exact bytes: a term has 65,536, and a log takes half a term past its slowest reader."""
+    room.serve()
+    with Peer(room.at("p1")) as one, Peer(room.at("p2")) as two:
+        one.enter(), two.enter()
+        publication = one.registered(publish)
+        nobody = struct.pack("<QQQQI", 0, 0, 0, 0, 0)
+        same("nobody reads", [(PUBLICATION_IS, nobody)], one.ask(publication_positions(publication)))
+        subscription = two.registered(subscribe)
+        source = two.image()
+        for words in (b"bid 99", b"ask 101", b"ask 102"):
+            same("an offer", TAKEN, one.ask(offer(publication, words, wait=1000))[0][0])
+        for read in (0, 64, 128, 192):
+            written = struct.pack("<QQQQI", 192, read + 32_768, 0, 0, 1)
+            same("the publication", [(PUBLICATION_IS, written)], one.ask(publication_positions(publication)))
+            seen = struct.pack("<QQQ", 0, read, 192)
+            same("the image", [(IMAGE_IS, seen)], two.ask(image_positions(subscription, source)))
+            two.ask(poll(subscription, source, limit=1))
 
+        def refused(what, peer, request):
+            ((kind, body),) = peer.ask(request)
+            same(what, (REFUSED, -4, "closed"), (kind, code_of(body), words_of(body)))
+
+        refused("a publication of another client", two, publication_positions(publication))
+        refused("a subscription of another client", one, image_positions(subscription, source))
+        refused("a subscription as a publication", two, publication_positions(subscription))
+        refused("a source that it does not read", two, image_positions(subscription, 99))
+        one.commanded(unpublish, publication)
+        refused("a publication that is gone", one, publication_positions(publication))
+
+
+def free_port():
+    """A port that nobody receives by."""
+    with socket.socket(socket.AF_INET, socket.SOCK_DGRAM) as probe:
+        probe.bind(("127.0.0.1", 0))
+        return probe.getsockname()[1]
+
+
+def case_positions_over_datagrams(room):
+    """What the receiver that is heard has taken, and what the subscription has of it."""
+    room.serve("--setting", "send-address=127.0.0.1:%d" % free_port())
+    channel = "aeron:udp?endpoint=127.0.0.1:%d" % free_port()
+    with Peer(room.at("p1")) as one, Peer(room.at("p2")) as two:
+        one.enter(), two.enter()
+        subscription, publication = two.registered(subscribe, 10, channel), one.registered(publish, 10, channel)
+        source = two.image()
+        for words in (b"bid 99", b"ask 101"):
+            same("an offer", TAKEN, one.ask(offer(publication, words, wait=1000))[0][0])
+        seen = struct.pack("<QQQ", 0, 0, 128)
+        until("all is received", lambda: two.ask(image_positions(subscription, source)) == [(IMAGE_IS, seen)], 5)
+        same("the fragments", 3, len(two.ask(poll(subscription, source))))
+        taken = struct.pack("<QQQQI", 128, 128 + 32_768, 128, 128, 3)
+        until("all is taken", lambda: one.ask(publication_positions(publication)) == [(PUBLICATION_IS, taken)], 5)
+
+
+def parts_of(answer):
+    """The parts of an answer to POLL_ALL: of each its place, its payloads, and why it was refused; then the count of DONE."""
+    parts = []
+    for kind, body in answer:
+        if kind == PART:
+            parts.append([struct.unpack("<I", body)[0], []])
+        elif kind == FRAGMENT:
+            parts[-1][1].append(body[12:])
+        elif kind == PART_REFUSED:
+            parts[-1].append((code_of(body), words_of(body)))
+        else:
+            parts.append((kind, struct.unpack("<I", body)[0]))
+    return parts
+
+
+def case_several_sources_by_one_poll(room):
+    """Each pair once, in the order in which they stand, each with its place; a refused one beside the others."""
+    room.serve()
+    with Peer(room.at("p1")) as one, Peer(room.at("p2")) as two:
+        one.enter(), two.enter()
+        pairs, publications = [], []
+        for stream in (10, 11, 12):
+            subscription = two.registered(subscribe, stream)
+            publications.append(one.registered(publish, stream))
+            pairs.append((subscription, two.image()))
+        same("nothing there", [(DONE, 0)], parts_of(two.ask(poll_all(pairs))))
+        same("no pairs", [(DONE, 0)], parts_of(two.ask(poll_all([]))))
+        for words in (b"a1", b"a2", b"a3"):
+            same("an offer", TAKEN, one.ask(offer(publications[0], words))[0][0])
+        same("an offer", TAKEN, one.ask(offer(publications[2], b"c1"))[0][0])
+        same("what is there", [[0, [b"a1", b"a2"]], [2, [b"c1"]], (DONE, 2)], parts_of(two.ask(poll_all(pairs, limit=2))))
+        one.ask(offer(publications[0], b"a4"))
+        same("a pair twice", [[1, [b"a3"]], [2, [b"a4"]], (DONE, 2)],
+             parts_of(two.ask(poll_all([pairs[1], pairs[0], pairs[0]], limit=1))))
+        one.ask(offer(publications[1], b"b1"))
+        closed = (-4, "closed")
+        another = (pairs[0][0], pairs[1][1])
+        same("a source that it does not read", [[0, [], closed], [1, [b"b1"]], [2, [], closed], (DONE, 3)],
+             parts_of(two.ask(poll_all([another, pairs[1], (99, 99)], wait=1000))))
+        same("of another client", [[0, [], closed], (DONE, 1)], parts_of(one.ask(poll_all(pairs[:1]))))
+        # 64 pairs at most
+        same("64 pairs", [(DONE, 0)], parts_of(two.ask(poll_all([pairs[0]] * 64))))
+        ((kind, body),) = two.ask(poll_all([pairs[0]] * 65))
+        same("65 pairs", (REFUSED, 7, "malformed request"), (kind, code_of(body), words_of(body)))
+        # without rights
+        room.policy(WITHOUT)
+        room.call("reload", "--driver", room.at("operator"))
+        until("the reload", lambda: parts_of(two.ask(poll_all(pairs[:1]))) == [[0, [], closed], (DONE, 1)])
+
+
+def case_one_wait_for_several_sources(room):
+    """It ends as soon as one of them has something, wherever that stands."""
+    room.serve()
+    with Peer(room.at("p1")) as one, Peer(room.at("p2")) as two:
+        one.enter(), two.enter()
+        pairs, publications = [], []
+        for stream in range(10, 15):
+            subscription = two.registered(subscribe, stream)
+            publications.append(one.registered(publish, stream))
+            pairs.append((subscription, two.image()))
+        begun = time.monotonic()
+        same("nothing comes", [(DONE, 0)], parts_of(two.ask(poll_all(pairs, wait=300))))
+        need(0.25 < time.monotonic() - begun < 2, "a wait of 0.3 s took", time.monotonic() - begun)
+        for place in (4, 0, 2):
+            two.send(poll_all(pairs, wait=1000))
+            time.sleep(0.05)
+            begun = time.monotonic()
+            words = b"for %d" % place
+            same("an offer", TAKEN, one.ask(offer(publications[place], words))[0][0])
+            same("what comes", [[place, [words]], (DONE, 1)], parts_of(two.answer()))
+            need(time.monotonic() - begun < 0.5, "it came after", time.monotonic() - begun)
+
+
+def case_one_subscriber_of_many_sources(room):
+    """Of more than one request names, and of no more messages than are wanted."""
+    room.serve("--publications", "80", "--pages", "8000", "--setting", "arena-pages=8192")
+    with Peer(room.at("p1")) as one:
+        one.enter()
+        publications = [one.registered(publish_alone) for _ in range(70)]
+        for count in (210, 100, 5):
+            until("the last subscriber is gone", lambda: len(room.clients()) == 1)
+            words = ("subscribe", "--driver", room.at("p2"), "--count", str(count), "aeron:ipc", "10")
+            reader = room.start(room.program, *words)
+            until("a subscription", lambda: any(" 1 subscriptions" in line for line in room.clients()))
+            # all of them wait before it reads one more
+            os.kill(reader.pid, signal.SIGSTOP)
+            try:
+                for at in range(3):
+                    for number, publication in enumerate(publications):
+                        same("an offer", TAKEN, one.ask(offer(publication, b"%d %d" % (number, at), wait=1000))[0][0])
+            finally:
+                os.kill(reader.pid, signal.SIGCONT)
+            same("status of the subscriber", 0, room.ended(reader))
+            lines = said(reader.out).splitlines()
+            same("how many lines", count, len(lines))
+            need("received %d messages" % count in said(reader.err), said(reader.err))
+            for number in range(70):
+                got = [line for line in lines if line.split()[0] == str(number)]
+                same("what is read of one source", ["%d %d" % (number, at) for at in range(len(got))], got)
+
+
+def case_a_wait_is_a_second_at_most(room):
     room.serve()
     with Peer(room.at("p2")) as two:
         two.enter()

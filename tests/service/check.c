@@ -210,6 +210,31 @@ static void sources(struct apd_driver *one, struct apd_driver *two)
     NEED(apd_remove_subscription(two, &subscription, 5000) == APD_OK);
 }
 
+/* A term has 65,536 bytes, and a log takes half a term past its slowest reader. */
+static void positions(struct apd_driver *one, struct apd_driver *two)
+{
+    struct apd_image images[2];
+    struct apd_subscription subscription;
+    struct apd_publication_positions written;
+    struct apd_image_positions seen;
+    uint64_t publication = 0, counts[256] = {0};
+    NEED(apd_add_subscription(two, "aeron:ipc", 60, 5000, images, 2, &subscription) == APD_OK);
+    NEED(apd_add_publication(one, "aeron:ipc", 60, 5000, &publication) == APD_OK);
+    for (int i = 0; i < 3; i++) NEED(apd_offer(one, publication, "x", 1, 1000, NULL) == APD_OK);
+    for (int tries = 0; counts['x'] == 0 && tries < 50; tries++)
+        NEED(apd_poll(two, &subscription, 1, 100, count_one, counts) >= 0);
+    NEED(counts['x'] == 1 && subscription.count == 1);
+    NEED(apd_publication_positions(one, publication, &written) == APD_OK);
+    NEED(written.position == 192 && written.limit == 64 + 32768 && written.sent == 0 && written.consumed == 0);
+    NEED(written.connected == 1 && written.heard == 0);
+    NEED(apd_image_positions(two, subscription.registration, images[0].source, &seen) == APD_OK);
+    NEED(seen.joined == 0 && seen.position == 64 && seen.received == 192);
+    NEED(apd_image_positions(two, subscription.registration, 99999, &seen) == APD_REFUSED && two->code == APD_CODE_CLOSED);
+    NEED(apd_publication_positions(two, publication, &written) == APD_REFUSED && two->code == APD_CODE_CLOSED);
+    NEED(apd_remove_publication(one, publication, 5000) == APD_OK);
+    NEED(apd_remove_subscription(two, &subscription, 5000) == APD_OK);
+}
+
 static void destinations(struct apd_driver *one)
 {
     uint64_t publication = 0;
@@ -239,6 +264,8 @@ static void forged(const char *path)
     struct apd_driver driver;
     struct apd_image images[2];
     struct apd_subscription subscription;
+    struct apd_publication_positions written;
+    struct apd_image_positions seen;
     uint64_t number = 0;
     int64_t value = 0;
     unsigned sum = 0;
@@ -253,6 +280,8 @@ static void forged(const char *path)
     (void)apd_offer(&driver, 1, "x", 1, 0, &number);
     (void)apd_list(&driver, ignore_row, &sum);
     (void)apd_value(&driver, 1, &value);
+    (void)apd_publication_positions(&driver, 1, &written);
+    (void)apd_image_positions(&driver, 1, 2, &seen);
     status = apd_keepalive(&driver);
     NEED(status <= 0 && memchr(driver.text, 0, sizeof driver.text) != NULL);
     apd_close(&driver);
@@ -272,6 +301,7 @@ int main(int count, char **words)
     sources(&one, &two);
     large(&one, &two);
     messages(&one, &two, (uint64_t)atoi(words[2]));
+    positions(&one, &two);
     destinations(&one);
     apd_close(&one);
     apd_close(&two);

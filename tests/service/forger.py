@@ -6,7 +6,23 @@ import socket
 import struct
 import threading
 
-from raw import BYE, DONE, FRAGMENT, LINE, REFUSED, REPLY, ROW, TAKEN, VALUE_IS, WELCOME, record
+from raw import (
+    BYE,
+    DONE,
+    FRAGMENT,
+    IMAGE_IS,
+    LINE,
+    PART,
+    PART_REFUSED,
+    PUBLICATION_IS,
+    REFUSED,
+    REPLY,
+    ROW,
+    TAKEN,
+    VALUE_IS,
+    WELCOME,
+    record,
+)
 
 _REPLIES = (
     lambda chance: struct.pack("<IQQ", 0x0F07, chance.randrange(3), 1),
@@ -28,6 +44,10 @@ _ANSWERS = (
     lambda chance: record(VALUE_IS, struct.pack("<q", -1)),
     lambda chance: record(BYE, struct.pack("<i", 1010) + b"stopped"),
     lambda chance: record(LINE, b"line"),
+    lambda chance: record(PART, struct.pack("<I", chance.randrange(3))),
+    lambda chance: record(PART_REFUSED, struct.pack("<i", chance.choice((-4, 1001, 1007))) + b"refused"),
+    lambda chance: record(PUBLICATION_IS, struct.pack("<QQQQI", 64, 128, 64, 32, chance.randrange(4))),
+    lambda chance: record(IMAGE_IS, struct.pack("<QQQ", 0, 64, 128)),
     lambda chance: record(chance.randrange(1 << 32), chance.randbytes(chance.randrange(40))),
     lambda chance: struct.pack("<I", chance.choice((0, 3, 65_533, 0x7FFFFFFF, 0xFFFFFFFF))) + b"xxxx",
 )
@@ -40,6 +60,9 @@ _FITTING = {
     4: lambda chance: _ANSWERS[0](chance) + _ANSWERS[4](chance),
     5: lambda chance: _ANSWERS[5](chance) + _ANSWERS[4](chance),
     6: lambda chance: _ANSWERS[6](chance),
+    10: lambda chance: record(PART, b"\0\0\0\0") + _ANSWERS[3](chance) + _ANSWERS[4](chance),
+    11: lambda chance: _ANSWERS[11](chance),
+    12: lambda chance: _ANSWERS[12](chance),
 }
 
 

@@ -5,9 +5,11 @@ import socket
 import struct
 import time
 
-COMMAND, OFFER, POLL, MAIL, LIST, VALUE, STOP, RELOAD, STATUS = range(1, 10)
-WELCOME, REPLY, TAKEN, REFUSED, FRAGMENT, DONE, ROW, VALUE_IS, BYE, LINE = range(0x101, 0x10B)
-LAST = (TAKEN, REFUSED, DONE, VALUE_IS)
+COMMAND, OFFER, POLL, MAIL, LIST, VALUE, STOP, RELOAD, STATUS, POLL_ALL = range(1, 11)
+PUBLICATION_POSITIONS, IMAGE_POSITIONS = 11, 12
+WELCOME, REPLY, TAKEN, REFUSED, FRAGMENT, DONE, ROW, VALUE_IS, BYE, LINE, PART, PART_REFUSED = range(0x101, 0x10D)
+PUBLICATION_IS, IMAGE_IS = 0x10D, 0x10E
+LAST = (TAKEN, REFUSED, DONE, VALUE_IS, PUBLICATION_IS, IMAGE_IS)
 
 
 def record(kind, fields=b""):
@@ -26,8 +28,17 @@ def publish(client, correlation, stream=10, channel="aeron:ipc"):
     return command(1, client, correlation, struct.pack("<i", stream) + text(channel))
 
 
+def publish_alone(client, correlation, stream=10, channel="aeron:ipc"):
+    """A publication with a log of its own."""
+    return command(3, client, correlation, struct.pack("<i", stream) + text(channel))
+
+
 def subscribe(client, correlation, stream=10, channel="aeron:ipc"):
     return command(4, client, correlation, struct.pack("<Qi", 0, stream) + text(channel))
+
+
+def unpublish(client, correlation, registration):
+    return command(2, client, correlation, struct.pack("<Q", registration))
 
 
 def offer(registration, message=b"", seen=0, wait=0):
@@ -36,6 +47,18 @@ def offer(registration, message=b"", seen=0, wait=0):
 
 def poll(subscription, source, limit=64, wait=0):
     return record(POLL, struct.pack("<IIQQ", limit, wait, subscription, source))
+
+
+def poll_all(pairs, limit=64, wait=0):
+    return record(POLL_ALL, struct.pack("<II", limit, wait) + b"".join(struct.pack("<QQ", *pair) for pair in pairs))
+
+
+def publication_positions(registration):
+    return record(PUBLICATION_POSITIONS, struct.pack("<Q", registration))
+
+
+def image_positions(subscription, source):
+    return record(IMAGE_POSITIONS, struct.pack("<QQ", subscription, source))
 
 
 def mail(wait=0):
@@ -167,7 +190,7 @@ class Peer:
     def registered(self, make, *words, **more):
         """The registration that a command gives."""
         reply = self.commanded(make, *words, **more)
-        if reply[:2] not in (b"\x03\x0f", b"\x07\x0f", b"\x08\x0f"):
+        if reply[:2] not in (b"\x03\x0f", b"\x06\x0f", b"\x07\x0f", b"\x08\x0f"):
             raise Over("refused: %s" % reply[20:].decode())
         return struct.unpack_from("<Q", reply, 12)[0]
 

@@ -25,6 +25,9 @@ _PAUSE = 0.002
 _AHEAD = 256
 _AHEAD_BYTES = 1 << 18
 
+# What ends the answer to a request, where it is not refused.
+_LAST = (records.DONE, records.TAKEN, records.VALUE_IS, records.PUBLICATION_IS, records.IMAGE_IS)
+
 
 class Image(NamedTuple):
     """A source that a subscription reads: the log of a publication, or of a remote one."""
@@ -51,6 +54,24 @@ class Offered(NamedTuple):
     taken: int
     position: Optional[int]  # after the last one that was taken; `None` where none was
     refusal: Optional[Refused]  # of the first one that was not taken; `None` where all were
+
+
+class PublicationPositions(NamedTuple):
+    """How far a publication has come. Each position is in bytes of its stream."""
+
+    position: int  # after its last frame
+    limit: int  # from which on no offer is taken
+    sent: int  # up to which frames were sent in datagrams
+    consumed: Optional[int]  # up to which every receiver that is heard has taken the stream; `None` where none is
+    connected: bool  # whether anybody takes what is offered
+
+
+class ImagePositions(NamedTuple):
+    """How far a subscription has come with a source. Each position is in bytes of its stream."""
+
+    joined: int  # where the stream is joined: what was before it is not there
+    position: int  # up to which the subscription has read
+    received: int  # up to which the stream is there without a gap
 
 
 class Row(NamedTuple):
@@ -135,7 +156,7 @@ class Driver:
             if kind == records.REFUSED:
                 raise _refused(body)
             answer.append((kind, body))
-            if kind in (records.DONE, records.TAKEN, records.VALUE_IS):
+            if kind in _LAST:
                 return answer
 
     def _command(self, type_id: int, fields: bytes, wait: float) -> commands.Granted:
@@ -254,6 +275,13 @@ class Driver:
         if len(answer) != 1 or kind != records.VALUE_IS or len(body) != 8:
             raise self._give_up("no value")
         return int(records.SIGNED.unpack(body)[0])
+
+    def _positions(self, request: bytes, kind: int, fields: struct.Struct) -> tuple[int, ...]:
+        """The fields of the one record of that kind that answers a request."""
+        answer = self._ask(request)
+        if len(answer) != 1 or answer[0][0] != kind or len(answer[0][1]) != fields.size:
+            raise self._give_up("no positions")
+        return fields.unpack(answer[0][1])
 
     def keepalive(self) -> None:
         """Tells the driver that the client is there, as every request does. Call it several times within `liveness`."""
@@ -397,6 +425,13 @@ class Publication(_Kept):
                 raise self._driver._give_up("no answer to an offer")
         return Offered(taken, position, refused)
 
+    def positions(self) -> PublicationPositions:
+        """How far it has come. It raises `Closed` where it is not there any more, or another `Refused`."""
+        request = records.publication_positions(self.registration)
+        *counted, consumed, flags = self._driver._positions(request, records.PUBLICATION_IS, records.PUBLICATION_FIELDS)
+        heard, connected = bool(flags & records.HEARD), bool(flags & records.CONNECTED)
+        return PublicationPositions(*counted, consumed if heard else None, connected)
+
     def add_destination(self, channel: str, *, wait: float = 10.0) -> None:
         """Adds a destination to a publication with ``control-mode=manual``."""
         fields = commands.with_destination(self.registration, channel)
@@ -469,6 +504,11 @@ class Subscription(_Kept):
                 messages, self._ready = self._ready, []
                 return messages
 
+    def positions(self, source: int) -> ImagePositions:
+        """How far it has come with a source. It raises `Closed` where it does not read that source, or another `Refused`."""
+        request = records.image_positions(self.registration, source)
+        return ImagePositions(*self._driver._positions(request, records.IMAGE_IS, records.IMAGE_FIELDS))
+
     def messages(self, limit: int = 256, wait: float = 1.0) -> Iterator[Message]:
         """Messages, one after another, for as long as the connection lasts."""
         while True:
@@ -482,22 +522,21 @@ class Subscription(_Kept):
             return
         # another one is the first each time, so that none is always the last
         self._turn = (self._turn + 1) % len(sources)
-        sources = sources[self._turn :] + sources[: self._turn]
-        alone = records.milliseconds(min(wait, _GLANCE)) if len(sources) == 1 else 0
-        refusals = self._poll_all(sources, limit, alone)
+        sources = (sources[self._turn :] + sources[: self._turn])[: records.PAIRS]
+        refusals = self._poll_all(sources, limit, records.milliseconds(min(wait, _GLANCE)))
         for refused in refusals:
-            if refused is not None and refused.code not in (CLOSED, NO_LOOK):
+            if refused.code not in (CLOSED, NO_LOOK):
                 raise refused
-        if not self._ready and wait > 0 and (len(sources) > 1 or any(refusals)):
+        if not self._ready and wait > 0 and refusals:
             self._driver.take_mail(min(wait, 0.001))
 
-    def _poll_all(self, sources: list[_Source], limit: int, wait: int) -> list[Optional[Refused]]:
-        """Sends a poll for each of these and one request for mail, and reads the answers."""
+    def _poll_all(self, sources: list[_Source], limit: int, wait: int) -> list[Refused]:
+        """Sends one poll for all of these and one request for mail, and reads the answers; why polls were refused."""
         driver = self._driver
-        polls = [records.poll(limit, wait, self.registration, source.image.source) for source in sources]
+        numbers = [source.image.source for source in sources]
         try:
-            driver._wire.send(b"".join(polls) + records.mail(0))
-            refusals = [self._read(source) for source in sources]
+            driver._wire.send(records.poll_all(limit, wait, self.registration, numbers) + records.mail(0))
+            refusals = self._read_parts(sources)
             try:
                 driver._take_mail(driver._answer())
             except Refused:
@@ -506,25 +545,40 @@ class Subscription(_Kept):
         except BaseException:
             driver.close()
             raise
-        for source, refused in zip(sources, refusals):
-            if refused is not None and refused.code == CLOSED:
-                known = self._known()
-                if known.get(source.image.source) is source:
-                    del known[source.image.source]
         return refusals
 
-    def _read(self, source: _Source) -> Optional[Refused]:
-        """Reads the answer to a poll; why it was refused, if it was."""
+    def _read_parts(self, sources: list[_Source]) -> list[Refused]:
+        """Reads what the sources gave: the place of each stands before it. A source that is closed goes."""
+        refusals = []
+        source: Optional[_Source] = None
         while True:
             kind, body = self._driver._wire.receive()
-            if kind == records.FRAGMENT and len(body) >= records.FRAGMENT_FIELDS.size:
-                position, flags = records.FRAGMENT_FIELDS.unpack_from(body)
-                message = source.join(flags, body[records.FRAGMENT_FIELDS.size :])
-                if message is not None:
-                    self._ready.append(Message(message, position, source.image.source))
+            if kind == records.PART and len(body) == records.PLACE.size:
+                (place,) = records.PLACE.unpack(body)
+                source = sources[place] if place < len(sources) else None
             elif kind == records.DONE:
-                return None
+                return refusals
             elif kind == records.REFUSED:
-                return _refused(body)
+                return [*refusals, _refused(body)]
+            elif source is None:
+                raise self._driver._give_up("no answer to a poll")
+            elif kind == records.FRAGMENT and len(body) >= records.FRAGMENT_FIELDS.size:
+                self._take(source, body)
+            elif kind == records.PART_REFUSED:
+                refusals.append(self._lose(source, _refused(body)))
             else:
                 raise self._driver._give_up("no answer to a poll")
+
+    def _take(self, source: _Source, body: bytes) -> None:
+        """Takes a fragment of a source, and the message that it ends."""
+        position, flags = records.FRAGMENT_FIELDS.unpack_from(body)
+        message = source.join(flags, body[records.FRAGMENT_FIELDS.size :])
+        if message is not None:
+            self._ready.append(Message(message, position, source.image.source))
+
+    def _lose(self, source: _Source, refused: Refused) -> Refused:
+        """Notes that the poll of a source was refused: one that is closed is not polled again."""
+        number = source.image.source
+        if refused.code == CLOSED and self._known().get(number) is source:
+            del self._known()[number]
+        return refused

@@ -3,6 +3,7 @@
 from __future__ import annotations
 
 import struct
+from typing import Sequence
 
 VERSION = 1
 
@@ -10,27 +11,40 @@ VERSION = 1
 LONGEST = 16_777_280
 
 # Requests.
-COMMAND, OFFER, POLL, MAIL, LIST, VALUE, STOP, RELOAD, STATUS = range(1, 10)
+COMMAND, OFFER, POLL, MAIL, LIST, VALUE, STOP, RELOAD, STATUS, POLL_ALL = range(1, 11)
+PUBLICATION_POSITIONS, IMAGE_POSITIONS = 11, 12
 
-# Answers. VALUE_IS is the one that the protocol calls VALUE too.
-WELCOME, REPLY, TAKEN, REFUSED, FRAGMENT, DONE, ROW, VALUE_IS, BYE, LINE = range(0x101, 0x10B)
+# Answers. Those that end in IS have the name of their request in the protocol.
+WELCOME, REPLY, TAKEN, REFUSED, FRAGMENT, DONE, ROW, VALUE_IS, BYE, LINE, PART, PART_REFUSED = range(0x101, 0x10D)
+PUBLICATION_IS, IMAGE_IS = 0x10D, 0x10E
+
+# How many sources one POLL_ALL names at most.
+PAIRS = 64
 
 # Flags of the first and of the last fragment of a message.
 BEGIN, END = 0x80, 0x40
 
+# Flags of the positions of a publication: whether anybody takes what is offered, and whether a receiver is heard.
+CONNECTED, HEARD = 1, 2
+
 _HEAD = struct.Struct("<II")
 _OFFER = struct.Struct("<IIIIQ")
-_POLL = struct.Struct("<IIIIQQ")
+_POLL_ALL = struct.Struct("<IIII")
+_PAIR = struct.Struct("<QQ")
 _MAIL = struct.Struct("<III")
 _VALUE = struct.Struct("<IIQ")
+_IMAGE = struct.Struct("<IIQQ")
 
 SIZE = struct.Struct("<I")
 WELCOME_FIELDS = struct.Struct("<IIQQ")
 POSITION = struct.Struct("<Q")
 CODE = struct.Struct("<i")
+PLACE = struct.Struct("<I")
 FRAGMENT_FIELDS = struct.Struct("<QI")
 ROW_FIELDS = struct.Struct("<Qiq")
 SIGNED = struct.Struct("<q")
+PUBLICATION_FIELDS = struct.Struct("<QQQQI")
+IMAGE_FIELDS = struct.Struct("<QQQ")
 
 
 def bare(kind: int) -> bytes:
@@ -48,9 +62,10 @@ def offer_head(size: int, seen: int, wait: int, registration: int) -> bytes:
     return _OFFER.pack(20 + size, OFFER, seen, wait, registration)
 
 
-def poll(limit: int, wait: int, subscription: int, source: int) -> bytes:
-    """POLL of one source."""
-    return _POLL.pack(28, POLL, limit, wait, subscription, source)
+def poll_all(limit: int, wait: int, subscription: int, sources: Sequence[int]) -> bytes:
+    """POLL_ALL of these sources, 64 at most, by one subscription."""
+    pairs = b"".join(_PAIR.pack(subscription, source) for source in sources)
+    return _POLL_ALL.pack(12 + len(pairs), POLL_ALL, limit, wait) + pairs
 
 
 def mail(wait: int) -> bytes:
@@ -61,6 +76,16 @@ def mail(wait: int) -> bytes:
 def value(number: int) -> bytes:
     """VALUE of the counter of that number."""
     return _VALUE.pack(12, VALUE, number)
+
+
+def publication_positions(registration: int) -> bytes:
+    """PUBLICATION_POSITIONS of the publication of that registration."""
+    return _VALUE.pack(12, PUBLICATION_POSITIONS, registration)
+
+
+def image_positions(subscription: int, source: int) -> bytes:
+    """IMAGE_POSITIONS of that source, by the subscription of that registration."""
+    return _IMAGE.pack(20, IMAGE_POSITIONS, subscription, source)
 
 
 def milliseconds(seconds: float) -> int:
