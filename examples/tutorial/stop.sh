@@ -1,0 +1,1 @@
+aeron_policyd stop --driver /tmp/driver/operator.sock
