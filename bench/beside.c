@@ -2,8 +2,14 @@
  *   beside copies BYTES COUNT      a lock, a copy in, a lock, a copy out: nanoseconds of COUNT messages on one thread
  *   beside zmq BYTES COUNT         ZeroMQ, a PAIR over inproc: nanoseconds of COUNT messages from one thread to another
  *   beside zmq-trip BYTES COUNT    the same there and back, nanoseconds of each of COUNT trips, a line each
+ *   beside zmq-each BYTES COUNT N  N threads, each with a PAIR of its own, that sends 16 messages and takes them: nanoseconds
  *   beside udp BYTES COUNT         datagrams over loopback from one process to another, in a loop of `sendto` and one of
  *                                  `recvfrom`: nanoseconds until COUNT of them came; what was lost is sent again
+ * What is between them, and what they take:
+ *   beside relay PORT TO PERCENT   hands datagrams that come to a port of loopback on to the port TO, and those from there back
+ *                                  to where the last other one came from; loses so many of 100, the same ones each time
+ *   beside cost COMMAND ..         what the command prints, and in the same line the nanoseconds of processor time that it and
+ *                                  its children took, and how often they left the processor
  * Built with -DZMQ where libzmq is there. */
 #define _GNU_SOURCE
 #include <arpa/inet.h>
@@ -13,6 +19,7 @@
 #include <stdio.h>
 #include <stdlib.h>
 #include <string.h>
+#include <sys/resource.h>
 #include <sys/socket.h>
 #include <sys/wait.h>
 #include <time.h>
@@ -56,11 +63,46 @@ static int copies(void) {
 #ifdef ZMQ
 static void *context;
 
-static void *pair(int binds) {
+static void *pair_at(int binds, const char *at) {
     void *socket = zmq_socket(context, ZMQ_PAIR);
     if (!socket) fail("zmq_socket");
-    if ((binds ? zmq_bind : zmq_connect)(socket, "inproc://messages") != 0) fail("zmq_bind or zmq_connect");
+    if ((binds ? zmq_bind : zmq_connect)(socket, at) != 0) fail("zmq_bind or zmq_connect");
     return socket;
+}
+
+static void *pair(int binds) {
+    return pair_at(binds, "inproc://messages");
+}
+
+static void *sends_and_takes(void *number) {
+    char at[64];
+    unsigned char room[65536];
+    snprintf(at, sizeof at, "inproc://own-%ld", (long)(intptr_t)number);
+    void *takes = pair_at(1, at), *sends = pair_at(0, at);
+    for (long round = 0; round < count / 16; round++) {
+        for (int one = 0; one < 16; one++)
+            if (zmq_send(sends, message, bytes, 0) != (int)bytes) fail("zmq_send");
+        for (int one = 0; one < 16; one++)
+            if (zmq_recv(takes, room, sizeof room, 0) != (int)bytes) fail("zmq_recv");
+    }
+    zmq_close(sends);
+    zmq_close(takes);
+    return number;
+}
+
+static int zmq_each(long threads) {
+    pthread_t *all = calloc((size_t)threads, sizeof *all);
+    uint64_t begun;
+    if (!all) fail("calloc");
+    context = zmq_ctx_new();
+    count /= threads;
+    begun = now();
+    for (long at = 0; at < threads; at++)
+        if (pthread_create(&all[at], NULL, sends_and_takes, (void *)(intptr_t)at) != 0) fail("pthread_create");
+    for (long at = 0; at < threads; at++) pthread_join(all[at], NULL);
+    printf("%llu\n", (unsigned long long)(now() - begun));
+    zmq_ctx_term(context);
+    return 0;
 }
 
 static void *sends_all(void *nothing) {
@@ -128,19 +170,76 @@ static int udp(void) {
     return 0;
 }
 
+static struct sockaddr_in here(const char *port) {
+    struct sockaddr_in at = {.sin_family = AF_INET, .sin_addr.s_addr = htonl(INADDR_LOOPBACK)};
+    at.sin_port = htons((uint16_t)strtoul(port, NULL, 10));
+    return at;
+}
+
+static void relay(const char *port, const char *port_to, long percent) {
+    struct sockaddr_in at = here(port), to = here(port_to), back = {0}, from;
+    int room = 4194304, door = socket(AF_INET, SOCK_DGRAM, 0);
+    uint64_t drawn = 1;
+    if (door < 0 || bind(door, (struct sockaddr *)&at, sizeof at) != 0) fail("socket");
+    setsockopt(door, SOL_SOCKET, SO_RCVBUF, &room, sizeof room);
+    for (;;) {
+        socklen_t length = sizeof from;
+        ssize_t came = recvfrom(door, taken, sizeof taken, 0, (struct sockaddr *)&from, &length);
+        struct sockaddr_in *next = &to;
+        if (came < 0) continue;
+        if (from.sin_port == to.sin_port)
+            next = &back;
+        else
+            back = from;
+        drawn = drawn * 6364136223846793005u + 1442695040888963407u;
+        if ((long)((drawn >> 33) % 100) >= percent) sendto(door, taken, (size_t)came, 0, (struct sockaddr *)next, sizeof *next);
+    }
+}
+
+static uint64_t nanoseconds(struct timeval t) {
+    return (uint64_t)t.tv_sec * 1000000000u + (uint64_t)t.tv_usec * 1000u;
+}
+
+static int cost(char **command) {
+    int ends[2], status;
+    char said[256] = "";
+    size_t length = 0;
+    ssize_t more;
+    struct rusage used;
+    pid_t child;
+    if (pipe(ends) != 0 || (child = fork()) < 0) fail("fork");
+    if (child == 0) {
+        dup2(ends[1], 1);
+        close(ends[0]);
+        close(ends[1]);
+        execvp(command[0], command);
+        fail(command[0]);
+    }
+    close(ends[1]);
+    while (length < sizeof said - 1 && (more = read(ends[0], said + length, sizeof said - 1 - length)) > 0) length += (size_t)more;
+    if (wait4(child, &status, 0, &used) < 0 || status != 0) return 1;
+    said[strcspn(said, "\n")] = 0;
+    printf("%s %llu %ld\n", said, (unsigned long long)(nanoseconds(used.ru_utime) + nanoseconds(used.ru_stime)), used.ru_nvcsw + used.ru_nivcsw);
+    return 0;
+}
+
 int main(int argc, char **argv) {
-    if (argc == 4) {
+    if (argc > 2 && strcmp(argv[1], "cost") == 0) return cost(argv + 2);
+    if (argc == 5 && strcmp(argv[1], "relay") == 0) relay(argv[2], argv[3], strtol(argv[4], NULL, 10));
+    if (argc == 4 || argc == 5) {
         bytes = strtoul(argv[2], NULL, 10);
         count = strtol(argv[3], NULL, 10);
         if (bytes == 0 || bytes > sizeof message || count <= 0) return 2;
         memset(message, 7, sizeof message);
-        if (strcmp(argv[1], "copies") == 0) return copies();
-        if (strcmp(argv[1], "udp") == 0) return udp();
+        if (argc == 4 && strcmp(argv[1], "copies") == 0) return copies();
+        if (argc == 4 && strcmp(argv[1], "udp") == 0) return udp();
 #ifdef ZMQ
+        if (argc == 5 && strcmp(argv[1], "zmq-each") == 0) return zmq_each(strtol(argv[4], NULL, 10));
+        if (argc == 5) return 2;
         if (strcmp(argv[1], "zmq") == 0) return zmq(0);
         if (strcmp(argv[1], "zmq-trip") == 0) return zmq(1);
 #endif
     }
-    fprintf(stderr, "usage: beside copies|udp|zmq|zmq-trip BYTES COUNT\n");
+    fprintf(stderr, "usage: beside copies|udp|zmq|zmq-trip BYTES COUNT, zmq-each BYTES COUNT N, relay PORT TO PERCENT or cost COMMAND ..\n");
     return 2;
 }

@@ -1,5 +1,7 @@
-/* The client in C, timed: `client pub FOLDER COUNT SIZE` by p1.sock, `client sub FOLDER COUNT` by p2.sock, on stream 10 with terms
-   of 1 MiB; `client ping FOLDER ROUNDS SIZE` by p1.sock and `client pong FOLDER ROUNDS` by p2.sock, on streams 101 and 102. */
+/* The client in C, timed: `client pub|each FOLDER COUNT SIZE` by p1.sock, `client sub FOLDER COUNT` by p2.sock, on stream 10 with
+   terms of 1 MiB, where `pub` sends many messages ahead, and `each` the next one once the driver has taken the last;
+   `client ping FOLDER ROUNDS SIZE` by p1.sock and `client pong FOLDER ROUNDS SIZE` by p2.sock, on streams 101 and 102; `client idle
+   FOLDER SECONDS` by p2.sock, which waits for messages of a publication to which nothing is sent, on stream 103. */
 #define _POSIX_C_SOURCE 200809L
 #include "aeron_policyd.h"
 
@@ -48,7 +50,7 @@ static void on_fragment(void *context, const struct apd_fragment *fragment)
     got->bytes += fragment->size;
 }
 
-static void publish(const char *folder, long count, size_t size)
+static void publish(const char *folder, int ahead, long count, size_t size)
 {
     static struct apd_message messages[AHEAD];
     struct apd_driver driver;
@@ -60,7 +62,9 @@ static void publish(const char *folder, long count, size_t size)
         messages[i].data = data;
         messages[i].size = size;
     }
-    for (long left = count; left > 0; left -= AHEAD)
+    for (long left = count; left > 0 && !ahead; left--)
+        need(apd_offer(&driver, publication, data, size, 10000, NULL), &driver, "offer");
+    for (long left = count; left > 0 && ahead; left -= AHEAD)
         need(apd_offer_all(&driver, publication, messages, left < AHEAD ? (size_t)left : AHEAD, 10000, NULL, NULL), &driver,
              "offer");
     apd_close(&driver);
@@ -116,12 +120,31 @@ static void round_trips(const char *folder, int pings, long rounds, size_t size)
     free(data);
 }
 
+static void idle(const char *folder, long seconds)
+{
+    struct apd_driver driver;
+    struct apd_image images[4];
+    struct apd_subscription subscription;
+    struct got got = {0, 0, 0};
+    uint64_t publication;
+    double end = now() + (double)seconds;
+    enter(&driver, folder, "p2");
+    need(apd_add_subscription(&driver, channel, 103, 10000, images, 4, &subscription), &driver, "subscription");
+    need(apd_add_publication(&driver, channel, 103, 10000, &publication), &driver, "publication");
+    while (subscription.count == 0) need(apd_poll(&driver, &subscription, 1, 1000, on_fragment, &got), &driver, "poll");
+    fprintf(stderr, "ready\n");
+    while (now() < end) need(apd_poll(&driver, &subscription, 1, 1000, on_fragment, &got), &driver, "poll");
+    apd_close(&driver);
+}
+
 int main(int count, char **words)
 {
     const char *task = count > 3 ? words[1] : "";
     long number = count > 3 ? atol(words[3]) : 0;
     size_t size = count > 4 ? (size_t)atol(words[4]) : 64;
-    if (strcmp(task, "pub") == 0) publish(words[2], number, size);
+    if (strcmp(task, "pub") == 0) publish(words[2], 1, number, size);
+    else if (strcmp(task, "each") == 0) publish(words[2], 0, number, size);
+    else if (strcmp(task, "idle") == 0) idle(words[2], number);
     else if (strcmp(task, "sub") == 0) subscribe(words[2], number);
     else if (strcmp(task, "ping") == 0) round_trips(words[2], 1, number, size);
     else if (strcmp(task, "pong") == 0) round_trips(words[2], 0, number, size);
