@@ -37,8 +37,8 @@ pub(crate) struct Tray<N: DriverNaming, R: Clock + Wait + Copy + Drop> {
 /// The client of a connection.
 pub(crate) type OwnServed<N, R> = Served<N, MachineClock<R>, R, Kept<R>>;
 
-/// A connection before it has its thread. A closure that takes it can be given to a thread only where its type asks no lifetime
-/// of `R`, as [`Machine`] does.
+/// A connection before it has its thread. Its type asks less of `R` than [`Machine`] does: no closure is proved that takes a
+/// value whose type asks for `'static`.
 #[derive(Drop)]
 pub(crate) struct Entered<N: DriverNaming, R: Clock + Wait + Copy + Drop> {
     pub(crate) rt: R,
