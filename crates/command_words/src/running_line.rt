@@ -20,11 +20,18 @@ Example: p1 may do all that it asks for, so it receives the five bytes that it s
   subscription ready
   publication ready
   received 68656c6c6f
+  conductor: subscribe on stream 1001 allowed by default in policy 1
+  conductor: publish on stream 1001 allowed by default in policy 1
+  conductor: image on stream 1001 allowed by default in policy 1
+  client: offer on stream 1001 allowed by default in policy 1
+  client: receive on stream 1001 allowed by default in policy 1
   stopped
 
 A driver starts, on threads of its own and with UDP sockets, and one client of p1, or of the principal of --as, attaches to it.
 The client subscribes to `aeron:ipc`, stream 1001, publishes there, offers `hello` and polls. Where its subscription or its
-publication is refused, the refusal stands instead of `ready`. Each wait stops after N attempts.
+publication is refused, the refusal stands instead of `ready`. Each wait stops after N attempts. Once both commands are answered,
+what was decided last is printed, by the audits of the conductor, the sender and the client: 4,096 decisions of each at most,
+and those that are the same in a row once.
 
 Status: 0, even if requests are denied or waits time out; 1 after `aeron_policyd: FAULT` on standard error: those of
 `aeron_policyd check`; --as names no principal; no thread could be started. 2 for a usage error.";
@@ -65,8 +72,8 @@ longer than `destination-timeout` is not waited for. Then the last line on stand
 Where not all of them were taken it ends with 1 and `not taken: N messages from position P`. A subscriber that comes after the
 others were gone for `connection-timeout` does not get what they had not taken: `gap: session S, N bytes from P lost` says so,
 the rest is sent, and the status is 3 in the end, or with --fail-on-gap at once. Other lines say, each once, what is withheld
-from which address and by which rule, which NAK or status message is denied, what came that is of another stream or none of the
-protocol, and where the system sends or reads nothing.
+from which address and by which rule, which NAK or status message is denied, is for no stream that is here, or is above what was
+sent, what came that is none of the protocol, and where the system sends or reads nothing.
 
 It gives the position after the last message, and the one up to which each subscriber said that it took them; how many NAKs
 came, and how many datagrams of data were sent again; how many invalid datagrams were received, and how many sends and reads
@@ -144,7 +151,7 @@ second:
 
 A stream that was read before and comes back further on has lost what is between: `gap: session S, N bytes from P lost` says so,
 what comes after it is printed, and the status is 3 in the end, or with --fail-on-gap at once. Other lines say, each once, which
-SETUP is denied by which rule or opens no image, and what came that is of another stream or invalid. A subscriber takes no more
+SETUP is denied by which rule, is for no subscription or opens no image, and what came that is invalid. A subscriber takes no more
 than it prints. Where standard output takes nothing it waits, and its publisher in the end; after --wait seconds a line says so.
 
 It gives the position after the last fragment, how many streams are read, how many NAKs were sent, how many invalid datagrams

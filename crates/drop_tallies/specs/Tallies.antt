@@ -3,7 +3,7 @@ use Rattle.std.specs.Prelude.{ℕ, ◌+◌, ◌-◌, ◌^◌, ◌==◌, ◌&&◌
 use Rattle.std.specs.List.{list_any}
 use Rattle.channel_uri.specs.Address.{is_same}
 use Rattle.drop_tallies.specs.declared.miss.Miss.{Miss}
-use Rattle.drop_tallies.specs.declared.miss.Miss.TheVariants.{Unread, NoStream, Stranger, OutOfWindow, Full, Empty, Lingering, Busy, NoMemory, Denied, Withheld, QueueFull, BadSetup, NoSubscription, Unimaged, TooMany, NoRoom}
+use Rattle.drop_tallies.specs.declared.miss.Miss.TheVariants.{Unread, NoStream, Stranger, OutOfWindow, Full, Empty, Lingering, Busy, NoMemory, Denied, Withheld, QueueFull, BadSetup, NoSubscription, Unimaged, TooMany, NoRoom, Unsent, Unheard}
 use Rattle.drop_tallies.specs.declared.repairs.Repairs.{Repairs}
 use Rattle.drop_tallies.specs.declared.tally.Tally.{Tally}
 use Rattle.policy_core.specs.declared.verdict.Verdict.{Verdict}
@@ -27,6 +27,8 @@ rank_of NoSubscription = 13
 rank_of Unimaged = 14
 rank_of TooMany = 15
 rank_of NoRoom = 16
+rank_of Unsent = 17
+rank_of Unheard = 18
 
 abbrev pub is_same_rule : Option ℕ → Option ℕ → Bool
 is_same_rule (Some one) (Some other) = one == other

@@ -39,6 +39,10 @@ pub enum Miss {
     TooMany,
     /// There is no place for the log of the image of a SETUP.
     NoRoom,
+    /// A datagram could not be sent.
+    Unsent,
+    /// What came to an address could not be read.
+    Unheard,
 }
 
 impl Miss {
@@ -64,6 +68,8 @@ impl Miss {
             Miss::Unimaged => 14,
             Miss::TooMany => 15,
             Miss::NoRoom => 16,
+            Miss::Unsent => 17,
+            Miss::Unheard => 18,
         }
     }
 

@@ -11,7 +11,7 @@ pub struct Tally {
     pub miss: Miss,
     /// By what the policy denies it; `None` where no policy was asked.
     pub verdict: Option<Verdict>,
-    /// From where the datagram came, or where it would have gone.
+    /// From where the datagram came, or where it would have gone; where reading failed, at which address of the driver's.
     pub address: Address,
     /// How many times, up to the greatest number.
     pub count: u64,

@@ -1,9 +1,7 @@
 //! Why messages do not reach a subscriber, as far as one side can know it: what the policy denies on the wire, what comes that is
-//! for nobody, and what the system does not send. Each cause is a line, and is said once.
+//! for nobody, and what the system does not send. Each is a row of a driver's tallies, and a line.
 #![tactic(auto)]
 
 mod cause;
-mod said;
 
-pub use cause::Cause;
-pub use said::Said;
+pub use cause::{Cause, Side};

@@ -6,7 +6,7 @@ use Rattle.audit_ring.proofs.laws.end_of_the_pushes_is_kept.Goals as goal
 
 pub returns : goal.returns
 unfolding kept_of
-returns c pushes = (
+returns g c pushes = (
   take (length pushes - 4096) pushes,
   take-append-drop (length pushes - 4096) pushes,
   omega (arith, length-drop (length pushes - 4096) pushes),
