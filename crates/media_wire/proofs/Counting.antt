@@ -1,8 +1,11 @@
 -- How many calls failed, call by call.
-use Rattle.std.proofs.Common.{◌≡◌, ℕ, ◌+◌, ◌-◌, ◌^◌, List, [], ◌∷◌, ◌++◌, min, refl, ap, sym, arith, zero-add}
-use Rattle.std.proofs.Common.{Option, Some, None, Ok}
+use Rattle.std.proofs.Common.{◌≡◌, ℕ, ◌+◌, ◌-◌, ◌^◌, List, [], ◌∷◌, ◌++◌, min, refl, ap, sym, ◌∙◌, arith, zero-add}
+use Rattle.std.proofs.Common.{Option, Some, None, Result, Ok, Err, is_ok}
 use Rattle.channel_uri.specs.declared.address.Address.{Address}
-use Rattle.media_wire.specs.Events.{Event, sent, read, nothing, failed, failures, counted, calm, read_event}
+use Rattle.media_wire.specs.Events.{Event, sent, read, nothing, failed, failures, counted, calm, read_event, sent_event}
+use Rattle.media_wire.specs.declared.letter.Letter.{Letter}
+use Rattle.media_wire.specs.Sockets.{counted_once}
+use Rattle.media_wire.specs.declared.wire.WireFault.{WireFault}
 
 pub failures-append : (events : List Event) (event : Event) → failures (events ++ event ∷ []) ≡ failures events + failures (event ∷ [])
 failures-append [] event = sym (zero-add (failures (event ∷ [])))
@@ -38,3 +41,14 @@ calm-append (failed ∷ events) event = calm-append events event
 pub read_counts_none : (local : Address) (buffer : List ℕ) (answer : Option (ℕ × Address)) → failures (read_event local buffer (Ok answer) ∷ []) ≡ 0
 read_counts_none local buffer None = refl
 read_counts_none local buffer (Some datagram) = refl
+
+-- one more call, by what it answered
+pub counts_sent : (events : List Event) (it : Letter) (answered : Result Unit WireFault) (count : ℕ) → count ≡ counted events →
+    counted_once (is_ok answered) count ≡ counted (events ++ sent_event it answered ∷ [])
+counts_sent events it (Ok done) count is = is ∙ sym (counted-calm events _ refl)
+counts_sent events it (Err fault) count is = counted-failed events count is
+
+pub counts_read : (events : List Event) (local : Address) (buffer : List ℕ) (answered : Result (Option (ℕ × Address)) WireFault) (count : ℕ) →
+    count ≡ counted events → counted_once (is_ok answered) count ≡ counted (events ++ read_event local buffer answered ∷ [])
+counts_read events local buffer (Ok answer) count is = is ∙ sym (counted-calm events _ (read_counts_none local buffer answer))
+counts_read events local buffer (Err fault) count is = counted-failed events count is

@@ -1,5 +1,6 @@
 pub mod Counting
 pub mod Flights
+pub mod Oldest
 pub mod Orders
 pub mod Places
 pub mod Sources

@@ -1,40 +1,37 @@
--- Which sockets the last call used.
-use Rattle.std.proofs.Common.{◌≡◌, ◌==◌, ◌<◌, ℕ, true, List, [], ◌∷◌, ◌++◌, Option, Some, None, OnSome, length, slice_set, slice_index_or, refl, ap, subst, ◌∙◌, sym, arith, length-append, ◌&&◌}
-use Rattle.std.specs.List.{position}
-use Rattle.std.specs.Str.{bytes_eq}
-use Rattle.std.proofs.lemmas.Bool.Decides.{nat_tests}
-use Rattle.std.proofs.lemmas.List.{get_or-set_same, get_or_push, length-set}
+-- What a call did with the socket of its address.
+use Rattle.std.proofs.Common.{◌≡◌, ◌<◌, ◌∷◌, [], ℕ, List, Some, inl, inr, length, length-append, slice_index_or, slice_set, ap, arith, sym, ◌∙◌, subst}
 use Rattle.std.proofs.lemmas.List.Quantifiers.{position-Some}
-use Rattle.std.proofs.lemmas.Slice.Eq.{bytes_eq-Decides}
-use Rattle.channel_uri.specs.Address.{is_same}
+use Rattle.std.proofs.lemmas.Option.{slice_get-get_or}
+use Rattle.std.specs.declared.net.socket_addr.SocketAddrV4.{SocketAddrV4}
 use Rattle.channel_uri.specs.declared.address.Address.{Address}
-use Rattle.media_wire.specs.Doors.{is_at}
-use Rattle.media_wire.specs.Sockets.{IsUsed}
-use Rattle.media_wire.specs.declared.udp.Door.{Door}
+use Rattle.media_wire.specs.Calls.{Call}
+use Rattle.media_wire.specs.Doors.{Bound, Enters, UsesIts, is_at}
+use Rattle.media_wire.specs.Sockets.{Sockets}
 
-same_port : (port : ℕ) → (port == port) ≡ true
-same_port port = grind (arith, nat_tests)
+module _ {S : Type 0} (Did : Call S → Type 0) (Stands : S → SocketAddrV4 → Type 0) where
+  within : (places call : ℕ) (local : Address) (doors between : List (Bound S)) (place : ℕ) (door : Bound S) →
+      Enters Did Stands places call local doors between (Some place) → place < length between
+  within places call local doors between place door (inl there) =
+      subst (λ (all : List (Bound S)). place < length all) (sym there.1) (position-Some (is_at local) doors place door there.0).0
+  within places call local doors between place door (inr added) =
+      omega (arith, length-append added.left (added.door ∷ []), ap (λ (all : List (Bound S)). length all) added.next_is, added.place_is)
 
-pub is_itself : (address : Address) → is_same address address ≡ true
-is_itself address = rw ((bytes_eq-Decides address.octets address.octets).1 refl, same_port address.port) refl
+module _ {S : Type 0} (Did : Call S → Type 0) (Stands : S → SocketAddrV4 → Type 0) (Uses : Bound S → Bound S → Type 0) (Fails : Type 0) where
+  pub used_one : (places call : ℕ) (local : Address) (doors between next : List (Bound S)) (place : ℕ) (door after : Bound S) →
+      Enters Did Stands places call local doors between (Some place) → door ≡ slice_index_or between place door →
+      Uses door after → next ≡ slice_set between place after → UsesIts Did Stands Uses Fails places call local doors next
+  used_one places call local doors between next place door after enters there uses next_is = inl (record {
+    between = between;
+    place = place;
+    enters = enters;
+    door = door;
+    there = slice_get-get_or between place door (within Did Stands places call local doors between place door enters) ∙ ap Some (sym there);
+    after = after;
+    uses = uses;
+    next_is = next_is;
+  })
 
--- a socket that is there was used
-pub used_again : (local : Address) (call place : ℕ) (seen doors : List Door) (door : Door) → seen ≡ doors → Some place ≡ position (is_at local) seen →
-    door ≡ slice_index_or doors place door → IsUsed local call (slice_set doors place (record door { used = call }))
-used_again local call place seen doors door same is value =
-    let at : position (is_at local) doors ≡ Some place = subst (λ (all : List Door). position (is_at local) all ≡ Some place) same (sym is) in
-    let found = position-Some (is_at local) doors place door at in
-    let next : Door = record door { used = call } in
-    let test : is_at local next ≡ true = ap (λ (it : Door). is_at local it) value ∙ found.1 in
-    (place, next, subst (λ (n : ℕ). place < n) (sym (length-set doors place next)) found.0, get_or-set_same doors place next next found.0, (test, refl))
-
--- one that was opened was used
-pub used_new : (doors : List Door) (door : Door) → IsUsed door.local door.used (doors ++ door ∷ [])
-used_new doors door =
-    let within : length doors < length (doors ++ door ∷ []) = omega (arith, length-append doors (door ∷ [])) in
-    (length doors, door, within, get_or_push doors door door (length doors) refl, (is_itself door.local, refl))
-
-pub used_added : (result : Option ℕ) (doors next : List Door) (door : Door) → OnSome result (next ≡ doors ++ door ∷ []) →
-    OnSome result (IsUsed door.local door.used next)
-used_added None doors next door added = added
-used_added (Some place) doors next door added = subst (λ (all : List Door). IsUsed door.local door.used all) (sym added) (used_new doors door)
+  -- of the sockets whose parts these are
+  pub used_by : (inside was : Sockets S) (call : ℕ) (local : Address) (next : List (Bound S)) → inside ≡ was →
+      UsesIts Did Stands Uses Fails inside.places call local inside.doors next → UsesIts Did Stands Uses Fails was.places call local was.doors next
+  used_by inside was call local next is uses = subst (λ (it : Sockets S). UsesIts Did Stands Uses Fails it.places call local it.doors next) is uses

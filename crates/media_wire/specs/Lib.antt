@@ -1,6 +1,8 @@
 pub mod Arrivals
+pub mod Calls
 pub mod Doors
 pub mod Events
+pub mod Holds
 pub mod Letters
 pub mod Networks
 pub mod Sockets

@@ -3,14 +3,17 @@
 //! [`Wire`] is what the agents of a driver send and read by. Contracts see what happened to a wire as a list of events, one
 //! for each call ([`Wire`]: `went`): a datagram was sent or read, nothing was there to read, or the call failed. How often it
 //! failed is a number of that list, without a last value. [`Network`] ties each such list to the datagrams that are on their
-//! way; of sockets, nothing is known but the number of failures.
+//! way, [`Udp`] each call to one call of a socket, of which nothing else is known, and [`Shared`] each event to a call of a wire
+//! in one hold of a lock.
 #![tactic(auto)]
 
+mod doors;
 mod faulty;
 mod laws;
 mod letter;
 mod network;
 mod shared;
+mod socket;
 mod udp;
 mod wire;
 

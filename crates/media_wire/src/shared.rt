@@ -1,6 +1,8 @@
-ghost use Rattle.media_wire.specs.Events.{Event, counted};
+ghost use Rattle.media_wire.specs.Events.{Event, counted, read_event, sent_event};
+ghost use Rattle.media_wire.specs.Holds.{IsHeld};
+ghost use Rattle.media_wire.specs.Letters.{letter};
 ghost use Rattle.media_wire.specs.Turns.{are_whole, one_ended};
-ghost use Rattle.std.specs.Prelude.{◌≡◌, ◌+◌, ◌-◌, ◌^◌, List, IfOk, if◌then◌else◌, length, min, replicate};
+ghost use Rattle.std.specs.Prelude.{◌≡◌, ◌≤◌, ◌+◌, ◌-◌, ◌^◌, ◌++◌, ◌∷◌, [], List, All, IfOk, IfSome, OnOk, false, if◌then◌else◌, length, min, replicate, vec_len};
 
 use crate::wire::{Wire, WireFault};
 use channel_uri::Address;
@@ -44,13 +46,47 @@ fn is_round_over(turns: &mut [u8], place: usize) -> bool
 
 impl<W: Wire> Common<W> {
     // The place of one more.
-    fn join(&mut self) -> Result<usize, AllocError> {
+    fn join(&mut self) -> Result<usize, AllocError>
+        ensures place { IfOk result (λ place. place ≡ vec_len self.old.turns) }
+        ensures turns { OnOk result (self.new.turns.items ≡ self.old.turns.items ++ 0 ∷ []) }
+        ensures wire { self.new.wire ≡ self.old.wire }
+    {
         let place = self.turns.len();
         self.turns.push(0)?;
         Ok(place)
     }
 
-    fn turn_ended(&mut self, place: usize) {
+    // Sends by the wire, once.
+    fn send(&mut self, local: &Address, to: &Address, bytes: &[u8]) -> Result<(), WireFault>
+        ensures wire { (events : List Event) → W.went self.old.wire events
+            → W.went self.new.wire (events ++ sent_event (letter local.now to.now bytes.now) result ∷ []) }
+        ensures turns { self.new.turns ≡ self.old.turns }
+    {
+        self.wire.send(local, to, bytes)
+    }
+
+    // Reads by the wire, once.
+    fn recv(
+        &mut self,
+        local: &Address,
+        buffer: &mut [u8],
+    ) -> Result<Option<(usize, Address)>, WireFault>
+        requires { 65507 ≤ length buffer.old }
+        ensures within { IfOk result (λ read. IfSome read (λ datagram. datagram.0 ≤ length buffer.new)) }
+        ensures wire { (events : List Event) → W.went self.old.wire events
+            → W.went self.new.wire (events ++ read_event local.now buffer.new result ∷ []) }
+        ensures turns { self.new.turns ≡ self.old.turns }
+    {
+        self.wire.recv(local, buffer)
+    }
+
+    // The turn of one ended.
+    fn turn_ended(&mut self, place: usize)
+        ensures turns { self.new.turns.items ≡ (if are_whole (one_ended self.old.turns.items place)
+            then replicate (vec_len self.old.turns) 0 else one_ended self.old.turns.items place) }
+        ensures waits { are_whole (one_ended self.old.turns.items place) ≡ false → self.new.wire ≡ self.old.wire }
+        ensures kept { (events : List Event) → W.went self.old.wire events → W.went self.new.wire events }
+    {
         if is_round_over(&mut self.turns, place) {
             self.wire.turn_ended();
         }
@@ -58,7 +94,8 @@ impl<W: Wire> Common<W> {
 }
 
 /// A wire that several threads use: each has one of these, and a call takes the lock of the wire for its time. The failures of
-/// one are those of its own calls. What went over the wire that they share, no contract says.
+/// one are those of its own calls, and each of its events is what one call of a wire did in one hold of a lock. That it is the
+/// wire that they share, and what else goes over it, no contract says.
 ///
 /// Threads end their turns at different times. The turn of the wire itself ends once each that shares it has ended two turns
 /// since the wire's last: the second of them is a whole turn, so that what each of them uses in every turn was used. While one
@@ -117,10 +154,11 @@ impl<W: Wire + Drop, R: Wait + Copy> Shared<W, R> {
 }
 
 impl<W: Wire + Drop, R: Wait + Copy> Wire for Shared<W, R> {
-    ghost went = { λ failures events. failures ≡ counted events };
+    // Each event is that of one call of the wire below, in one hold of its lock.
+    ghost went = { λ failures events. (failures ≡ counted events) × All (IsHeld W.went) events };
 
     fn send(&mut self, local: &Address, to: &Address, bytes: &[u8]) -> Result<(), WireFault> {
-        let sent = self.common.lock(&self.rt).wire.send(local, to, bytes);
+        let sent = self.common.lock(&self.rt).send(local, to, bytes);
         match sent {
             Ok(()) => Ok(()),
             Err(_) => Err(self.fail()),
@@ -132,7 +170,7 @@ impl<W: Wire + Drop, R: Wait + Copy> Wire for Shared<W, R> {
         local: &Address,
         buffer: &mut [u8],
     ) -> Result<Option<(usize, Address)>, WireFault> {
-        let read = self.common.lock(&self.rt).wire.recv(local, buffer);
+        let read = self.common.lock(&self.rt).recv(local, buffer);
         match read {
             Ok(read) => Ok(read),
             Err(_) => Err(self.fail()),
@@ -141,7 +179,8 @@ impl<W: Wire + Drop, R: Wait + Copy> Wire for Shared<W, R> {
 
     fn turn_ended(&mut self)
         ensures same { self.new ≡ self.old }
-        ensures kept { (events : List Event) → self.old ≡ counted events → self.new ≡ counted events }
+        ensures kept { (events : List Event) → (self.old ≡ counted events) × All (IsHeld W.went) events
+            → (self.new ≡ counted events) × All (IsHeld W.went) events }
     {
         self.common.lock(&self.rt).turn_ended(self.place);
     }

@@ -1,14 +1,12 @@
-use Rattle.std.proofs.Common.{ap, sym, ◌∙◌}
+use Rattle.std.proofs.Common.{ap, ◌∙◌}
 use Rattle.media_wire.specs.Sockets.{Sockets}
-use Rattle.media_wire.proofs.Counting.{counted-calm, counted-failed, read_counts_none}
+use Rattle.media_wire.proofs.Counting.{counts_read}
+use Rattle.media_wire.proofs.Uses.{used_by}
 use Rattle.media_wire.proofs.udp.UdpWire.recv.Goals as goal
 
-pub returns-in-Ok-clause-event : goal.returns-in-Ok-clause-event
-returns-in-Ok-clause-event g c = λ events is.
-    ap (λ (sockets : Sockets). sockets.failures) c.in-Ok.ensures.called ∙ is
-    ∙ sym (counted-calm events _ (read_counts_none c.args.local.now c.received.new.buffer c.in-Ok.read))
+pub returns-clause-event : goal.returns-clause-event
+returns-clause-event g c = λ events is.
+    c.failed_of-self-inside.ensures ∙ counts_read events _ _ c.recv_at-read.result c.self.inside.failures (ap (λ (it : Sockets g.row.S.Denot). it.failures) c.self.view_is ∙ is)
 
-pub returns-in-Err-clause-event : goal.returns-in-Err-clause-event
-returns-in-Err-clause-event g c = λ events is.
-    ap (λ (sockets : Sockets). sockets.failures) c.fail.ensures
-    ∙ counted-failed events _ (ap (λ (sockets : Sockets). sockets.failures) c.in-Err.ensures.called ∙ is)
+pub returns-clause-used : goal.returns-clause-used
+returns-clause-used g c = used_by g.S.Socket.did g.S.Socket.stands _ _ _ c.args.self.now _ _ _ c.self.view_is c.recv_at-read.ensures.used

@@ -1,13 +1,12 @@
-use Rattle.std.proofs.Common.{refl, ap, sym, ◌∙◌}
+use Rattle.std.proofs.Common.{ap, ◌∙◌}
 use Rattle.media_wire.specs.Sockets.{Sockets}
-use Rattle.media_wire.proofs.Counting.{counted-calm, counted-failed}
+use Rattle.media_wire.proofs.Counting.{counts_sent}
+use Rattle.media_wire.proofs.Uses.{used_by}
 use Rattle.media_wire.proofs.udp.UdpWire.send.Goals as goal
 
-pub returns-then-is_sent-clause-event : goal.returns-then-is_sent-clause-event
-returns-then-is_sent-clause-event g c = λ events is.
-    ap (λ (sockets : Sockets). sockets.failures) c.is_sent.ensures.called ∙ is ∙ sym (counted-calm events _ refl)
+pub returns-clause-event : goal.returns-clause-event
+returns-clause-event g c = λ events is.
+    c.failed_of-self-inside.ensures ∙ counts_sent events _ c.send_from-sent.result c.self.inside.failures (ap (λ (it : Sockets g.row.S.Denot). it.failures) c.self.view_is ∙ is)
 
-pub returns-else-is_sent-clause-event : goal.returns-else-is_sent-clause-event
-returns-else-is_sent-clause-event g c = λ events is.
-    ap (λ (sockets : Sockets). sockets.failures) c.fail.ensures
-    ∙ counted-failed events _ (ap (λ (sockets : Sockets). sockets.failures) c.is_sent.ensures.called ∙ is)
+pub returns-clause-used : goal.returns-clause-used
+returns-clause-used g c = used_by g.S.Socket.did g.S.Socket.stands _ _ _ c.args.self.now _ _ _ c.self.view_is c.send_from-sent.ensures.used
