@@ -1,14 +1,15 @@
 -- One more of those that are asked in order; and a slot that is not there.
-use Rattle.std.proofs.Common.{◌≡◌, ◌+◌, ◌<◌, ◌≤◌, ◌==◌, ℕ, Bool, true, false, All, List, [], ◌∷◌, ◌++◌, Option, Some, None, ap, cond, get_or, length, max, pos, refl, subst, sym, take, ◌∙◌}
+use Rattle.std.proofs.Common.{◌≡◌, ◌+◌, ◌<◌, ◌≤◌, ◌==◌, ℕ, ℤ, Bool, true, false, All, List, [], ◌∷◌, ◌++◌, Option, Some, None, Result, Ok, Err, IfErr, OnOk, ap, cond, get_or, length, max, pos, refl, subst, sym, take, ◌∙◌}
 use Rattle.std.proofs.lemmas.List.{append-nil, take_all, take_more}
 use Rattle.std.proofs.lemmas.List.Elements.{All-append, All-cons, All-nil, filter_map-append}
 use Rattle.std.specs.Prelude.{filter_map}
 use Rattle.driver_core.specs.State.{State, at_moment}
 use Rattle.driver_steps.specs.Held.{HeldLog}
 use Rattle.log_arena.specs.Homes.{Home}
-use Rattle.log_slots.specs.Slots.{SlotLog, is_silent_by, log_of, reach_by, with_readers, without_log}
+use Rattle.log_slots.specs.Counting.{SlotCount}
+use Rattle.log_slots.specs.Slots.{IsSlot, SlotLog, is_silent_by, log_of, reach_by, with_readers, without_log}
 use Rattle.media_agents.specs.declared.slots.LogAt.{LogAt}
-use Rattle.media_agents.specs.Asking.{AreSilentAt, Closes, Gathers, IsHold, Rejoins, SaysSilent, SilenceOf, with_answer, without}
+use Rattle.media_agents.specs.Asking.{AreSilentAt, Closes, Gathers, IsHold, Opens, Refuses, Rejoins, SaysSilent, SilenceOf, with_answer, with_log, without}
 use Rattle.stream_registry.specs.declared.row.Source.{Source}
 
 module _ {A B : Type 0} (Says : A → Option B → Type 0) where
@@ -119,3 +120,40 @@ nowhere_closes home source log is = record {
   held = stays home (without_log source nowhere) (same_of (0 == source));
   log_is = is ∙ sym (none_there source);
 }
+
+pub nowhere_refuses : (home : Home) (log back : HeldLog) → back ≡ log → Refuses (λ found left. IsHold home found left) log back
+nowhere_refuses home log back is = record { found = nowhere; held = stays home nowhere refl; back_is = is }
+
+-- ---- a log opens in a slot, or comes back
+
+abbrev AreSlot : Home → SlotLog → Type 0
+AreSlot home slot = IsSlot home slot.source slot.session slot.stream slot.log
+
+pub opens_in : (home : Home) (session stream session' stream' : ℤ) (log : HeldLog) (result : Result Unit HeldLog) (old new : SlotLog) →
+    session' ≡ session → stream' ≡ stream → AreSlot home old → AreSlot home new →
+    OnOk result ((old.log ≡ None) × (new ≡ with_log session' stream' log)) → IfErr result (λ back. (back ≡ log) × (new ≡ old)) →
+    Opens (IsHold home) session stream log result
+opens_in home session stream session' stream' log (Ok done) old new session_is stream_is before after opened back = record {
+  found = old;
+  held = record {
+    found_is = before;
+    left_is = subst (λ (slot : SlotLog). AreSlot home slot)
+        (opened.1 ∙ ap (λ (s : ℤ). with_log s stream' log) session_is ∙ ap (λ (s : ℤ). with_log session s log) stream_is) after;
+  };
+  free = opened.0;
+}
+opens_in home session stream session' stream' log (Err it) old new session_is stream_is before after opened back = record {
+  found = old;
+  held = record { found_is = before; left_is = before };
+  back_is = back.0;
+}
+
+-- of a publication, whose slot counts messages
+pub opens_counted : (A : Type 0) (home : Home) (session stream session' stream' : ℤ) (log : HeldLog) (result : Result Unit HeldLog) (old new : SlotCount) →
+    session' ≡ session → stream' ≡ stream → AreSlot home old.kept → AreSlot home new.kept → OnOk result (A × (old.kept.log ≡ None)) →
+    OnOk result (new ≡ record old { kept = with_log session' stream' log; reports = [] }) → IfErr result (λ back. (back ≡ log) × (new ≡ old)) →
+    Opens (IsHold home) session stream log result
+opens_counted A home session stream session' stream' log (Ok done) old new session_is stream_is before after free opened back =
+    opens_in home session stream session' stream' log (Ok done) old.kept new.kept session_is stream_is before after (free.1, ap (λ (slot : SlotCount). slot.kept) opened) tt
+opens_counted A home session stream session' stream' log (Err it) old new session_is stream_is before after free opened back =
+    opens_in home session stream session' stream' log (Err it) old.kept new.kept session_is stream_is before after tt (back.0, ap (λ (slot : SlotCount). slot.kept) back.1)

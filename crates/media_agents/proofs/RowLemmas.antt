@@ -1,15 +1,12 @@
 -- A row of a registry whose logs are sound.
-use Rattle.std.proofs.Common.{◌≡◌, ℕ, suc, arith, ◌==◌, Bool, true, false, cond, List, [], ◌∷◌, find, All, Option, Some, None, Result, Ok, Err, IfOk, IfSome, IsSome, OnOk, Bor, subst, sym, ap, ◌∙◌, refl, ◌++◌}
-use Rattle.std.proofs.lemmas.List.{map-append}
+use Rattle.std.proofs.Common.{◌≡◌, ℕ, suc, arith, ◌==◌, Bool, true, false, cond, List, [], ◌∷◌, find, All, Option, Some, None, Result, Ok, Err, IfOk, IfSome, IsSome, Bor, subst, sym, ap, ◌∙◌, refl, ◌++◌}
 use Rattle.std.specs.Option.{option_copied}
 use Rattle.driver_core.specs.Conduct.{state_after}
 use Rattle.driver_core.specs.declared.entry.Entry.{Entry}
-use Rattle.driver_core.specs.declared.event.Event.{Event}
 use Rattle.driver_core.specs.Renewal.{source_at}
 use Rattle.driver_core.specs.Soundness.{AreSizes, BeginsSoundly, IsSound}
 use Rattle.driver_core.specs.State.{State}
 use Rattle.logbook.specs.Pages.{Book}
-use Rattle.media_agents.specs.Turns.{events_in}
 use Rattle.published_registry.specs.Histories.{History, history_in, registry_after, registry_of}
 use Rattle.stream_registry.specs.declared.row.Source.{Source}
 
@@ -62,13 +59,3 @@ works_go_on book now inside after publisher more entry view there here is ours s
 pub ok_holds : {T E : Type 0} (A : Type 0) (r : Result T E) (x : T) → IfOk r (λ _. A) → r ≡ Ok x → A
 ok_holds A (Ok y) x all is = all
 ok_holds A (Err e) x all is = absurd (cc is)
-
--- one entry more is one event more
-pub events_go_on : {T E : Type 0} (r : Result T E) (old new : History) (entry : Entry) (event : Event) →
-    IfOk r (λ _. new ≡ record old { entries = old.entries ++ entry ∷ [] }) → entry.event ≡ event →
-    OnOk r (events_in new.entries ≡ events_in old.entries ++ event ∷ [])
-events_go_on (Ok x) old new entry event is same =
-    ap (λ (h : History). events_in h.entries) is
-    ∙ map-append (λ (e : Entry). e.event) old.entries (entry ∷ [])
-    ∙ ap (λ (e : Event). events_in old.entries ++ e ∷ []) same
-events_go_on (Err e) old new entry event is same = tt

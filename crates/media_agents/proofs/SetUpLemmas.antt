@@ -1,5 +1,5 @@
 -- SETUPs that are pushed, one after another.
-use Rattle.std.proofs.Common.{◌≡◌, ◌+◌, ◌≤◌, ◌⊎◌, ℕ, List, [], ◌∷◌, ◌++◌, All, Result, Ok, Err, ap, append_assoc, arith, inl, inr, length, refl, subst, sym, ◌∙◌, length-append}
+use Rattle.std.proofs.Common.{◌≡◌, ℕ, List, [], ◌∷◌, ◌++◌, Result, Ok, Err, ap, append_assoc, arith, inl, inr, refl, subst, sym, ◌∙◌, length-append}
 use Rattle.std.proofs.lemmas.List.{append-nil}
 use Rattle.std.proofs.lemmas.List.Elements.{All-append, All-cons, All-nil}
 use Rattle.channel_uri.specs.declared.address.Address.{Address}
@@ -11,7 +11,7 @@ use Rattle.driver_core.specs.declared.event.Event.TheVariants.{Setup as SetUp}
 use Rattle.frame_codec.specs.declared.fault.BadPacket.{BadPacket}
 use Rattle.frame_codec.specs.declared.setup.Setup.{Setup}
 use Rattle.frame_codec.specs.Datagram.{Content, beat, frames, nak, setup, status}
-use Rattle.media_agents.specs.SetUps.{Goes, GoesOrIsLost, HadNone, IsSetUp, SetsUp, SetsUpAs, SetsUpFew, SetsUpIfRead, SettingUp}
+use Rattle.media_agents.specs.SetUps.{GoesOrIsLost, HadNone, IsSetUp, SetsUp, SetsUpAs, SetsUpFew, SetsUpIfRead, SettingUp}
 
 -- a queue that is full has fewer than half of its places free
 pub full_has_none : (queue : Sent Event) → (facts : Facts Event) × WasFull queue.total queue.number queue.sent facts → HadNone queue

@@ -1,5 +1,5 @@
 -- What logs answer the conductor, each asked under the lock of its slot. Own rules.
-use Rattle.std.specs.Prelude.{◌≡◌, ℕ, ◌++◌, Bool, true, false, List, [], ◌∷◌, Option, Some, None, filter_map, take}
+use Rattle.std.specs.Prelude.{◌≡◌, ℕ, ℤ, ◌++◌, Bool, true, false, List, [], ◌∷◌, Option, Some, None, Result, Ok, Err, filter_map, take}
 use Rattle.std.specs.Option.{option_map}
 use Rattle.driver_core.specs.declared.event.End.{End}
 use Rattle.driver_core.specs.declared.event.Event.{Event}
@@ -42,6 +42,27 @@ pub record Closes (Held : SlotLog → SlotLog → Type 0) (source : ℕ) (log : 
   pub found : SlotLog
   pub held : Held found (without_log source found)
   pub log_is : log ≡ log_of source found
+
+-- the log is open in the slot, of that session and stream
+abbrev pub with_log : ℤ → ℤ → HeldLog → SlotLog
+with_log session stream log = record { source = log.source; session = session; stream = stream; log = Some log }
+
+-- no log was open there, and this one is from then on, of that session and stream
+pub record Takes (Held : SlotLog → SlotLog → Type 0) (session stream : ℤ) (log : HeldLog) : Type 0 where
+  pub found : SlotLog
+  pub held : Held found (with_log session stream log)
+  pub free : found.log ≡ None
+
+-- the log came back, and nothing was changed there
+pub record Refuses (Held : SlotLog → SlotLog → Type 0) (log back : HeldLog) : Type 0 where
+  pub found : SlotLog
+  pub held : Held found found
+  pub back_is : back ≡ log
+
+-- the log opened there, or came back
+abbrev pub Opens : (SlotLog → SlotLog → Type 0) → ℤ → ℤ → HeldLog → Result Unit HeldLog → Type 0
+Opens Held session stream log (Ok done) = Takes Held session stream log
+Opens Held session stream log (Err back) = Refuses Held log back
 
 -- ---- one after another
 

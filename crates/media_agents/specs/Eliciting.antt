@@ -8,11 +8,13 @@ use Rattle.driver_core.specs.ImageRequests.{image_named}
 use Rattle.driver_core.specs.State.{State}
 use Rattle.frame_codec.specs.declared.status_message.StatusMessage.{StatusMessage}
 use Rattle.frame_codec.specs.StatusMessage.{status_bytes}
+use Rattle.media_agents.specs.Acts.{Access, Act, lacked, looked, shared}
 use Rattle.media_agents.specs.declared.eliciting.Elicitation.{Elicitation}
 use Rattle.media_agents.specs.declared.eliciting.Wanted.{Wanted}
+use Rattle.media_agents.specs.Traffic.{AreTried}
 use Rattle.media_wire.specs.Letters.{letter}
 use Rattle.media_wire.specs.declared.letter.Letter.{Letter}
-use Rattle.published_registry.specs.Histories.{History, registry_of}
+use Rattle.published_registry.specs.Histories.{History, IsContinuedBy, registry_of}
 
 -- ---- whom the receiver is to elicit
 
@@ -102,7 +104,18 @@ abbrev pub ElicitsBy : State → ℕ → Eliciting → Eliciting → List Letter
 ElicitsBy s now old new letters =
     (new ≡ record old { wanted = map (looked_at s now) old.wanted }) × (letters ≡ letters_due s.settings.receiver_id new.wanted)
 
--- one may be handed over, and then those go out that are due by a look; none where there is no look
-pub record Elicits (now : ℕ) (look : History) (old new : Eliciting) (letters : List Letter) : Type 0 where
+-- by a look those go out that are due; none where there is no look
+abbrev pub ElicitsIf : ℕ → History → Eliciting → Eliciting → List Letter → List Access → Type 0
+ElicitsIf now look old new letters accesses =
+    (ElicitsBy (registry_of look) now old new letters × (accesses ≡ looked look ∷ [])) ⊎ ((new ≡ old) × (letters ≡ []) × (accesses ≡ lacked ∷ []))
+
+-- one may be handed over, and then by a look a datagram is sent for each that is due
+pub record Elicits (now : ℕ) (before after : History) (old new : Eliciting) (acts : List Act) : Type 0 where
   pub handed : Option Elicitation
-  pub goes : ElicitsBy (registry_of look) now (with_handed handed old) new letters ⊎ ((new ≡ with_handed handed old) × (letters ≡ []))
+  pub later : IsContinuedBy before after
+  pub letters : List Letter
+  pub looks : List Access
+  pub goes : ElicitsIf now after (with_handed handed old) new letters looks
+  pub sent : List Act
+  pub tried : AreTried letters sent
+  pub order : acts ≡ map shared looks ++ sent

@@ -1,12 +1,17 @@
+pub mod Acts
 pub mod Agents
 pub mod Answering
 pub mod Asking
 pub mod Desks
 pub mod Eliciting
 pub mod Finding
+pub mod Following
+pub mod Journals
 pub mod Mails
 pub mod Passing
 pub mod SetUps
+pub mod Stepping
 pub mod Tallying
 pub mod Traffic
 pub mod Turns
+pub mod Works

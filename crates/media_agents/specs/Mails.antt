@@ -1,5 +1,5 @@
 -- Which entry a reply is of, and what a ring takes. Own rules.
-use Rattle.std.specs.Prelude.{◌≡◌, ◌≢◌, ℕ, ◌+◌, ◌-◌, ◌^◌, ◌⊎◌, List, [], ◌∷◌, ◌++◌, All, Contains, Option, Some, None, min, slice_get, slice_set}
+use Rattle.std.specs.Prelude.{◌≡◌, ◌≢◌, ◌≤◌, ℕ, ◌+◌, ◌-◌, ◌^◌, ◌⊎◌, List, [], ◌∷◌, ◌++◌, All, Contains, Option, Some, None, min, slice_get, slice_set}
 use Rattle.driver_core.specs.declared.entry.Entry.{Entry}
 use Rattle.driver_core.specs.declared.replies.Message.{Message}
 use Rattle.media_agents.specs.declared.mail.ClientReply.{ClientReply}
@@ -32,17 +32,21 @@ pub record Posted : Type 0 where
   pub receipt : Known
   pub reply : ClientReply
 
--- the client of a ring, how many of its replies were dropped, and what was put into the ring
+-- the client of a ring, how many of its replies were dropped, what was put into the ring, and how many of its places are known to
+-- be free
 pub record RingState : Type 0 where
   pub client : ℕ
   pub lost : ℕ
   pub sent : List Posted
+  pub free : ℕ
 
--- the reply goes into the ring, with how many were dropped before it; or the ring is full, and one more is dropped
+-- The reply goes into the ring, with how many were dropped before it: it takes one place, and others may be found free. Only where
+-- none was known to be free the ring may be full, and one more is dropped.
 abbrev pub Posts : Known → ClientReply → RingState → RingState → Type 0
 Posts receipt reply old new =
-    (new ≡ record old { sent = old.sent ++ record { client = old.client; lost = old.lost; receipt = receipt; reply = reply } ∷ [] })
-    ⊎ (new ≡ record old { lost = min (old.lost + 1) (2 ^ 64 - 1) })
+    ((new ≡ record old { sent = old.sent ++ record { client = old.client; lost = old.lost; receipt = receipt; reply = reply } ∷ []; free = new.free })
+    × (old.free ≤ new.free + 1))
+    ⊎ ((old.free ≡ 0) × (new ≡ record old { lost = min (old.lost + 1) (2 ^ 64 - 1) }))
 
 -- ---- the rings of all clients, by their numbers
 

@@ -1,95 +1,40 @@
--- What an agent's turn does to the wire, and to the queue of events. Own rules.
-use Rattle.std.specs.Prelude.{◌≡◌, ℕ, ◌+◌, ◌≤◌, ◌⊎◌, Bool, List, [], ◌∷◌, ◌++◌, Option, Some, None, All, Contains, filter, map, take}
+-- What an agent's turn does, act by act, and what comes of each. Own rules.
+use Rattle.std.specs.Prelude.{◌≡◌, ℕ, ◌<◌, ◌⊎◌, Bool, true, false, List, [], ◌∷◌, ◌++◌, Option, Some, None, Result, Ok, Err, All, filter, length, map, take}
 use Rattle.channel_uri.specs.declared.address.Address.{Address}
+use Rattle.driver_core.specs.declared.event.Event.TheVariants.{Setup as SetUp}
 use Rattle.driver_core.specs.declared.send_request.Outlet.{Outlet}
 use Rattle.driver_steps.specs.declared.answer.Answer.{Answer}
 use Rattle.driver_steps.specs.declared.answer.Answer.TheVariants.{Reported, Resent, Sent as Cut}
+use Rattle.drop_tallies.specs.declared.miss.Miss.{Miss}
+use Rattle.drop_tallies.specs.declared.miss.Miss.TheVariants.{QueueFull, Unheard, Unread, Unsent}
+use Rattle.frame_codec.specs.declared.fault.BadPacket.{BadPacket}
+use Rattle.frame_codec.specs.Datagram.{Content, beat, frames, nak, packet_of, setup, status}
+use Rattle.media_agents.specs.Acts.{Access, Act, Alone, Then, Writes, called, kept, shared}
+use Rattle.media_agents.specs.declared.journal.Journal.{Journal}
 use Rattle.media_agents.specs.declared.listing.ImageAt.{ImageAt}
-use Rattle.media_wire.specs.Events.{Event, failed, nothing, read, sent}
+use Rattle.media_agents.specs.declared.slots.LogAt.{LogAt}
+use Rattle.media_agents.specs.declared.stepping.Stepped.{Stepped}
+use Rattle.media_agents.specs.Journals.{after_miss, after_nak, after_packet, after_sending, after_turn}
+use Rattle.media_agents.specs.SetUps.{Goes, IsLost, SettingUp}
+use Rattle.media_agents.specs.Stepping.{HearsIf, ReportsBy, SendsBy}
+use Rattle.media_wire.specs.Events.{failed, nothing, read, sent}
 use Rattle.media_wire.specs.Letters.{letter}
 use Rattle.media_wire.specs.declared.letter.Letter.{Letter}
+use Rattle.published_registry.specs.Histories.{History}
 
--- the wire went on: after whatever calls it stood for there were more, of which that holds
-abbrev pub GoesOn : (List Event → Type 0) → (List Event → Type 0) → (List Event → Type 0) → Type 0
-GoesOn Behaves old new =
-    (events : List Event) → old events → (more : List Event) × Behaves more × new (events ++ more)
+module _ {S X : Type 0} where
+  -- one after another, each of these did that, from one state to the next, by these acts
+  abbrev pub Chain : (X → S → S → List Act → Type 0) → List X → S → S → List Act → Type 0
+  Chain Does [] before after acts = (after ≡ before) × (acts ≡ [])
+  Chain Does (one ∷ more) before after acts =
+      (next : S) × (first : List Act) × (rest : List Act) × (acts ≡ first ++ rest) × Does one before next first × Chain Does more next after rest
 
--- a datagram is sent from there, or the call failed
-abbrev pub IsSentFrom : Address → Event → Type 0
-IsSentFrom local (sent it) = it.from ≡ local
-IsSentFrom local (read it) = ⊥
-IsSentFrom local (nothing address) = ⊥
-IsSentFrom local failed = Unit {0}
+-- a call of the wire failed, and it was counted so
+abbrev pub Fails : Miss → Address → List Act → Type 0
+Fails miss address acts =
+    (journal : Journal) × (acts ≡ called failed ∷ shared (kept journal (after_miss miss address journal)) ∷ [])
 
--- what came there is read, or the call failed
-abbrev pub IsReadAt : Address → Event → Type 0
-IsReadAt local (sent it) = ⊥
-IsReadAt local (read it) = it.to ≡ local
-IsReadAt local (nothing address) = address ≡ local
-IsReadAt local failed = Unit {0}
-
--- one of both, what is sent from the one address, and what is read at the other
-abbrev pub IsHeard : Address → Address → Event → Type 0
-IsHeard local at (sent it) = it.from ≡ local
-IsHeard local at (read it) = it.to ≡ at
-IsHeard local at (nothing address) = address ≡ at
-IsHeard local at failed = Unit {0}
-
-abbrev pub AreSentFrom : Address → List Event → Type 0
-AreSentFrom local events = All (IsSentFrom local) events
-
--- how many datagrams were read
-abbrev pub reads : List Event → ℕ
-reads [] = 0
-reads (sent it ∷ events) = reads events
-reads (read it ∷ events) = reads events + 1
-reads (nothing address ∷ events) = reads events
-reads (failed ∷ events) = reads events
-
--- reading ended: 1,024 datagrams were read, or none was there any more, or a call failed
-abbrev pub Ends : Address → List Event → Type 0
-Ends local events = (reads events ≡ 1024) ⊎ (Contains events (nothing local) ⊎ Contains events failed)
-
--- all datagrams that came there were read, as far as a turn reads, by calls of that kind
-pub record ReadsOut (Is : Event → Type 0) (local : Address) (events : List Event) : Type 0 where
-  pub all : All Is events
-  pub few : reads events ≤ 1024
-  pub ends : Ends local events
-
--- so at each of these addresses, one after another
-abbrev pub ReadsEach : List Address → List Event → Type 0
-ReadsEach [] events = events ≡ []
-ReadsEach (local ∷ later) events =
-    (first : List Event) × (rest : List Event) × (events ≡ first ++ rest) × ReadsOut (IsReadAt local) local first × ReadsEach later rest
-
--- at each of these addresses, one after another, all that came is read, and what that asks for is sent
-abbrev pub HearsEach : Address → List Address → List Event → Type 0
-HearsEach local [] events = events ≡ []
-HearsEach local (at ∷ later) events =
-    (first : List Event) × (rest : List Event) × (events ≡ first ++ rest) × ReadsOut (IsHeard local at) at first × HearsEach local later rest
-
--- a turn of the sender: it reads where it sends from and at each of these addresses, and then it sends
-pub record Sends (local : Address) (controls : List Address) (events : List Event) : Type 0 where
-  pub heard : List Event
-  pub told : List Event
-  pub order : events ≡ heard ++ told
-  pub hears_each : HearsEach local (local ∷ controls) heard
-  pub sends : AreSentFrom local told
-
--- For these images, one after another, datagrams go out: each image's from the address at which it reads, and nothing else
--- goes out.
-abbrev pub SentEach : List ImageAt → List Event → Type 0
-SentEach [] events = events ≡ []
-SentEach (image ∷ later) events =
-    (first : List Event) × (rest : List Event) × (events ≡ first ++ rest) × AreSentFrom image.endpoint first × SentEach later rest
-
--- one read at that address: a datagram came, so long and from there; or none was there, or the read failed
-abbrev pub IsReading : Address → Option (ℕ × Address) → List Event → Type 0
-IsReading local None events = (events ≡ nothing local ∷ []) ⊎ (events ≡ failed ∷ [])
-IsReading local (Some datagram) events =
-    (bytes : List ℕ) × (events ≡ read (letter datagram.1 local (take datagram.0 bytes)) ∷ [])
-
--- ---- what comes of a step
+-- ---- what is sent
 
 -- the policy lets the datagram go there
 abbrev pub is_allowed : Outlet → Bool
@@ -111,24 +56,127 @@ letters_of local (Resent to datagrams) = letters_to local to datagrams
 letters_of local (Reported to datagrams) = letters_to local to datagrams
 letters_of local answer = []
 
--- that datagram was sent, or the call failed
-abbrev pub IsTried : Letter → Event → Type 0
-IsTried it event = (event ≡ sent it) ⊎ (event ≡ failed)
+-- that datagram was sent, or the call failed, and that was counted
+abbrev pub IsTried : Letter → List Act → Type 0
+IsTried it acts = (acts ≡ called (sent it) ∷ []) ⊎ Fails Unsent it.to acts
 
 -- so were these, each once and in their order
-abbrev pub AreTried : List Letter → List Event → Type 0
-AreTried [] [] = Unit {0}
-AreTried [] (event ∷ events) = ⊥
-AreTried (it ∷ letters) [] = ⊥
-AreTried (it ∷ letters) (event ∷ events) = IsTried it event × AreTried letters events
+abbrev pub AreTried : List Letter → List Act → Type 0
+AreTried [] acts = acts ≡ []
+AreTried (it ∷ letters) acts = Then (IsTried it) (AreTried letters) acts
 
--- a turn of the receiver: it reads at each of these addresses, then it sends for each of these images, and then it sends these
--- datagrams
-pub record Receives (endpoints : List Address) (images : List ImageAt) (letters : List Letter) (events : List Event) : Type 0 where
-  pub heard : List Event
-  pub told : List Event
-  pub elicited : List Event
-  pub order : events ≡ heard ++ told ++ elicited
-  pub reads_each : ReadsEach endpoints heard
-  pub sent_each : SentEach images told
-  pub tried : AreTried letters elicited
+-- ---- what is read
+
+-- one read at that address, with those bytes in the buffer then: a datagram came, so long and from there; or none was there, or
+-- the read failed, and that was counted
+abbrev pub IsReading : Address → Option (ℕ × Address) → List ℕ → List Act → Type 0
+IsReading at None bytes acts = (acts ≡ called (nothing at) ∷ []) ⊎ Fails Unheard at acts
+IsReading at (Some datagram) bytes acts = acts ≡ called (read (letter datagram.1 at (take datagram.0 bytes))) ∷ []
+
+-- reading ended after so many datagrams: 1,024 are as many as a turn reads there; else none was there any more, or a read failed
+abbrev pub Ends : Address → ℕ → List Act → Type 0
+Ends at count acts = ((count ≡ 1024) × (acts ≡ [])) ⊎ ((count < 1024) × IsReading at None [] acts)
+
+module _ {S : Type 0} where
+  -- all datagrams that came there were read, as far as a turn reads, and of each came that
+  pub record HearsOut (Takes : Letter → S → S → List Act → Type 0) (at : Address) (before after : S) (acts : List Act) : Type 0 where
+    pub letters : List Letter
+    pub heard : List Act
+    pub last : List Act
+    pub order : acts ≡ heard ++ last
+    pub came : All (λ (it : Letter). it.to ≡ at) letters
+    pub takes : Chain Takes letters before after heard
+    pub ends : Ends at (length letters) last
+
+-- a datagram was cut
+abbrev pub is_cut : Answer → Bool
+is_cut (Cut bytes outlets) = true
+is_cut answer = false
+
+abbrev pub was_due : Option Stepped → Bool
+was_due None = false
+was_due (Some it) = is_cut it.answer
+
+-- ---- what comes of a datagram
+
+-- what came of it is noted, and then it is sent from that address
+abbrev pub Answered : Address → Address → Option Stepped → List Act → Type 0
+Answered local from None acts = acts ≡ []
+Answered local from (Some it) acts = Then (Alone (Writes (after_packet from it))) (AreTried (letters_of local it.answer)) acts
+
+-- it comes to its log, unless something lacks
+abbrev pub Answers : ℕ → Address → Address → Address → Content → Option Stepped → History → History → List Act → Type 0
+Answers now local at from content it before after acts =
+    Then (Alone (HearsIf now at from content it before after)) (Answered local from it) acts
+
+-- a NAK or a status message comes to its publication; any other datagram is lost, and counts where its bytes are none
+abbrev pub SenderHears : ℕ → Address → Address → Address → Result Content BadPacket → History → History → List Act → Type 0
+SenderHears now local at from (Ok (nak fields)) before after acts =
+    (it : Option Stepped) × Then (Alone (Writes after_nak)) (Answers now local at from (nak fields) it before after) acts
+SenderHears now local at from (Ok (status fields)) before after acts =
+    (it : Option Stepped) × Answers now local at from (status fields) it before after acts
+SenderHears now local at from (Ok content) before after acts = (after ≡ before) × (acts ≡ [])
+SenderHears now local at from (Err fault) before after acts = (after ≡ before) × Alone (Writes (after_miss Unread from)) acts
+
+abbrev pub SenderTakes : ℕ → Address → Letter → History → History → List Act → Type 0
+SenderTakes now local it before after acts =
+    Then (λ acts. acts ≡ called (read it) ∷ []) (SenderHears now local it.to it.from (packet_of it.bytes) before after) acts
+
+-- what came of it is noted
+abbrev pub Noted : Address → Option Stepped → List Access → Type 0
+Noted from None accesses = accesses ≡ []
+Noted from (Some it) accesses = Writes (after_packet from it) accesses
+
+-- data or a heartbeat comes to its image, and nothing is sent
+abbrev pub Takes : ℕ → Address → Address → Content → History → History → List Access → Type 0
+Takes now at from content before after accesses =
+    (it : Option Stepped) × Then (HearsIf now at from content it before after) (Noted from it) accesses
+
+-- a SETUP goes to the conductor, or is lost, and then it counts
+abbrev pub SetsUpOrCounts : ℕ → Address → Address → Content → SettingUp → SettingUp → List Access → Type 0
+SetsUpOrCounts now at from (setup fields) old new accesses =
+    (Goes (SetUp now at from fields) old new × (accesses ≡ [])) ⊎ (IsLost old new × Writes (after_miss QueueFull from) accesses)
+SetsUpOrCounts now at from content old new accesses = (new ≡ old) × (accesses ≡ [])
+
+-- any other datagram is lost, and counts where its bytes are none
+abbrev pub ReceiverHears : ℕ → Address → Address → Result Content BadPacket → History × SettingUp → History × SettingUp → List Access → Type 0
+ReceiverHears now at from (Ok (frames all)) before after accesses =
+    Takes now at from (frames all) before.0 after.0 accesses × (after.1 ≡ before.1)
+ReceiverHears now at from (Ok (beat header)) before after accesses =
+    Takes now at from (beat header) before.0 after.0 accesses × (after.1 ≡ before.1)
+ReceiverHears now at from (Ok content) before after accesses = (after.0 ≡ before.0) × SetsUpOrCounts now at from content before.1 after.1 accesses
+ReceiverHears now at from (Err fault) before after accesses =
+    Writes (after_miss Unread from) accesses × (after.0 ≡ before.0) × (after.1 ≡ before.1)
+
+abbrev pub ReceiverTakes : ℕ → Letter → History × SettingUp → History × SettingUp → List Act → Type 0
+ReceiverTakes now it before after acts =
+    Then (λ acts. acts ≡ called (read it) ∷ []) (Alone (ReceiverHears now it.to it.from (packet_of it.bytes) before after)) acts
+
+-- ---- turns with logs
+
+-- what was due is noted, and then it went from there
+abbrev pub Sent : Address → Option Stepped → List Act → Type 0
+Sent local None acts = acts ≡ []
+Sent local (Some it) acts = Then (Alone (Writes (after_sending it))) (AreTried (letters_of local it.answer)) acts
+
+-- the sender had a turn with that log by a look, unless something lacks
+abbrev pub SendsOne : ℕ → Address → LogAt → Option Stepped → History → History → List Act → Type 0
+SendsOne now local at it before after acts = Then (Alone (SendsBy now at it before after)) (Sent local it) acts
+
+-- Turns one after another, of which each but the last had something due. Nothing was due in the last one, or they are 16.
+pub record SendsRun (now : ℕ) (local : Address) (at : LogAt) (before after : History) (acts : List Act) : Type 0 where
+  pub turns : List (Option Stepped)
+  pub rest : List (Option Stepped)
+  pub due : All (λ (turn : Option Stepped). was_due turn ≡ true) turns
+  pub ends : ((length turns ≡ 16) × (rest ≡ [])) ⊎ ((length turns < 16) × ((last : Option Stepped) × (rest ≡ last ∷ []) × (was_due last ≡ false)))
+  pub sends : Chain (SendsOne now local at) (turns ++ rest) before after acts
+
+-- what was due is noted, and then it went from where the image reads
+abbrev pub Told : ImageAt → Option Stepped → List Act → Type 0
+Told image None acts = acts ≡ []
+Told image (Some it) acts = Then (Alone (Writes (after_turn it))) (AreTried (letters_of image.endpoint it.answer)) acts
+
+-- the receiver had a turn with the log of that image by a look, unless something lacks
+abbrev pub ReportsOne : ℕ → ImageAt → History → History → List Act → Type 0
+ReportsOne now image before after acts =
+    (it : Option Stepped) × Then (Alone (ReportsBy now image.log it before after)) (Told image it) acts

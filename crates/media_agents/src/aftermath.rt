@@ -6,6 +6,8 @@ ghost use Rattle.std.specs.Prelude.{◌≡◌, IfOk};
 use crate::slots::LogAt;
 use byte_strings::Items;
 use driver_core::{Message, Outcome, Registry, Response};
+use policy_core::Decision;
+use published_registry::Receipt;
 use std::alloc::{AllocError, Global};
 use stream_registry::{LogPlace, Pair};
 
@@ -18,6 +20,19 @@ pub(crate) struct Aftermath {
     pub(crate) closes: Items<LogAt>,
     pub(crate) gone: Items<Pair>,
     pub(crate) replies: Items<Message>,
+    /// What the policy decided at it.
+    pub(crate) decisions: Items<Decision>,
+}
+
+/// What came of an event of which an entry was made.
+#[derive(Drop)]
+pub(crate) struct Made {
+    /// What the event itself is answered.
+    pub(crate) response: Response,
+    /// What the policy decided at it.
+    pub(crate) decisions: Items<Decision>,
+    /// It names the registry after the entry.
+    pub(crate) receipt: Receipt,
 }
 
 /// Where the log is that closes, as its row says. A row that the registry has not is nowhere.
@@ -59,6 +74,7 @@ impl Aftermath {
         ensures closes { IfOk result (λ aftermath. aftermath.closes ≡ closing registry.now outcome.now.closes) }
         ensures gone { IfOk result (λ aftermath. aftermath.gone ≡ outcome.now.gone) }
         ensures replies { IfOk result (λ aftermath. aftermath.replies ≡ outcome.now.replies) }
+        ensures decisions { IfOk result (λ aftermath. aftermath.decisions ≡ outcome.now.decisions) }
     {
         Ok(Aftermath {
             response: outcome.response,
@@ -66,6 +82,7 @@ impl Aftermath {
             closes: all_closing(alloc, registry, outcome.closes.as_slice())?,
             gone: Items::from(Vec::from_slice(alloc, outcome.gone.as_slice())?),
             replies: Items::from(Vec::from_slice(alloc, outcome.replies.as_slice())?),
+            decisions: Items::from(Vec::from_slice(alloc, outcome.decisions.as_slice())?),
         })
     }
 }

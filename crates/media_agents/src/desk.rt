@@ -1,13 +1,15 @@
 //! Where the owner of a driver asks the conductor: one question at a time.
 
 ghost use Rattle.media_agents.specs.Answering.{IsAnswer};
-ghost use Rattle.std.specs.Prelude.{◌≡◌, None, Some};
+ghost use Rattle.media_agents.specs.Desks.{DeskState, IsTold, answered_with};
+ghost use Rattle.std.specs.Prelude.{◌≡◌, ⊤, None};
 
 use crate::answering::{Answered, Question};
 use crate::naming::DriverNaming;
 use driver_core::Response;
 use published_registry::Receipt;
 use std::marker::Model;
+use std::sync::{Mutex, Wait};
 
 /// Where a question is until it is answered: a client that attaches, or a policy that is put in force. A lock guards it.
 #[derive(Drop)]
@@ -52,24 +54,62 @@ impl<N: DriverNaming> Desk<N> {
         self.answered.take()
     }
 
-    /// The ring of the client that attaches.
-    pub(crate) fn ring(&self) -> u16
-        ensures { result ≡ self.now.ring }
+    /// The question is answered: by the response of its entry, or by none where there was no memory. The ring of a client that
+    /// attaches by it.
+    fn answer(&mut self, question: Question, response: Option<Response>, receipt: Receipt) -> u16
+        requires ours { receipt.book ≡ N.book }
+        requires answer { IsAnswer question response receipt }
+        ensures ring { result ≡ self.old.ring }
+        ensures answered { self.new ≡ answered_with question response receipt self.old }
     {
+        self.answered = Some(Answered::new(question, response, receipt));
         self.ring
     }
+}
 
-    /// The question is answered: by the response of its entry, or by none where there was no memory.
-    pub(crate) fn answer(
-        &mut self,
+/// Where the owner of a driver asks, as the conductor gets at it: under its lock.
+pub trait Desks<N: DriverNaming> {
+    /// In one hold of the lock this was found there, and that was left. What is said over any desk can know it by a call alone.
+    ghost held: { Self → DeskState → DeskState → Type 0 };
+
+    /// The question is answered: by the response of its entry, or by none where there was no memory. The ring of a client that
+    /// attaches by it.
+    fn answer<R: Wait>(
+        &self,
+        rt: &R,
         question: Question,
         response: Option<Response>,
         receipt: Receipt,
-    )
+    ) -> u16
         requires ours { receipt.book ≡ N.book }
         requires answer { IsAnswer question response receipt }
-        ensures { self.new ≡ record self.old { answered = Some (record { question = question; response = response; receipt = receipt }) } }
-    {
-        self.answered = Some(Answered::new(question, response, receipt));
+        ensures { IsTold (held self.now) question response receipt result };
+}
+
+/// The desk alone, in one hold.
+fn tell<N: DriverNaming>(
+    desk: &mut Desk<N>,
+    question: Question,
+    response: Option<Response>,
+    receipt: Receipt,
+) -> u16
+    requires ours { receipt.book ≡ N.book }
+    requires answer { IsAnswer question response receipt }
+    ensures { IsTold (λ found left. ⊤) question response receipt result }
+{
+    desk.answer(question, response, receipt)
+}
+
+impl<N: DriverNaming> Desks<N> for Mutex<Desk<N>> {
+    ghost held = { λ desk found left. ⊤ };
+
+    fn answer<R: Wait>(
+        &self,
+        rt: &R,
+        question: Question,
+        response: Option<Response>,
+        receipt: Receipt,
+    ) -> u16 {
+        tell(&mut *self.lock(rt), question, response, receipt)
     }
 }

@@ -1,13 +1,15 @@
 //! Endpoints that are to be destinations of publications which learn theirs: from each the receiver sends a status message to
 //! its publication, until an image is open there.
 
+ghost use Rattle.media_agents.specs.Acts.{GoesOn, Trail};
 ghost use Rattle.media_agents.specs.Eliciting.{Elicits, IsAsked, IsFull, eliciting_bytes, is_among, is_due, is_it, is_past, letters_due, looked_at, with_handed};
-ghost use Rattle.media_agents.specs.Traffic.{AreTried, GoesOn};
-ghost use Rattle.media_wire.specs.declared.letter.Letter.{Letter};
+ghost use Rattle.media_agents.specs.Traffic.{AreTried};
 ghost use Rattle.published_registry.specs.Histories.{IsContinuedBy};
 ghost use Rattle.std.specs.Prelude.{◌≡◌, ◌∷◌, [], IfOk, List, MatchResult, Option, map};
 
 use crate::listing::add;
+use crate::stepping::Stepping;
+use crate::telling::send;
 use channel_uri::Address;
 use driver_core::{Registry, View};
 use frame_codec::{Flags, StatusMessage, write_sm};
@@ -17,6 +19,7 @@ use rows::{Change, Rows};
 use rtrb::{Consumer, Producer, RingBuffer};
 use std::alloc::{AllocError, Global};
 use std::marker::Model;
+use std::sync::Wait;
 
 /// How long after one status message the next goes out, in nanoseconds.
 const INTERVAL: u64 = 1_000_000_000;
@@ -229,42 +232,60 @@ fn message_of(receiver_id: u64, elicitation: &Elicitation) -> [u8; StatusMessage
     bytes
 }
 
-/// Sends one, if it is due. It is lost where its send fails.
-fn send_if<W: Wire>(wire: &mut W, receiver_id: u64, wanted: &Wanted)
-    ensures { GoesOn (AreTried (letters_due receiver_id (wanted.now ∷ []))) (W.went wire.old) (W.went wire.new) }
+/// Sends one, if it is due.
+fn send_if<R: Wait, S: Stepping, W: Wire>(
+    rt: &R,
+    steps: &mut S,
+    wire: &mut W,
+    receiver_id: u64,
+    wanted: &Wanted,
+)
+    ensures { GoesOn (AreTried (letters_due receiver_id (wanted.now ∷ []))) (Trail (S.did steps.old) (W.went wire.old)) (Trail (S.did steps.new) (W.went wire.new)) }
 {
     if !wanted.due {
         return;
     }
     let it = &wanted.elicitation;
     let bytes = message_of(receiver_id, it);
-    let _ = wire.send(&it.endpoint, &it.control, &bytes);
+    send(rt, steps, wire, &it.endpoint, &it.control, &bytes);
 }
 
 /// Sends one for each that is due, in their order.
-fn send_each<W: Wire>(wire: &mut W, receiver_id: u64, all: &[Wanted])
-    ensures { GoesOn (AreTried (letters_due receiver_id all.now)) (W.went wire.old) (W.went wire.new) }
+fn send_each<R: Wait, S: Stepping, W: Wire>(
+    rt: &R,
+    steps: &mut S,
+    wire: &mut W,
+    receiver_id: u64,
+    all: &[Wanted],
+)
+    ensures { GoesOn (AreTried (letters_due receiver_id all.now)) (Trail (S.did steps.old) (W.went wire.old)) (Trail (S.did steps.new) (W.went wire.new)) }
 {
     for wanted in all {
-        send_if(wire, receiver_id, wanted);
+        send_if(rt, steps, wire, receiver_id, wanted);
     }
 }
 
 /// What a turn of the receiver does: one that was handed over joins the others, and then a status message goes out for each that
 /// is due by a look. None is where there is no look.
-pub(crate) fn elicit<W: Wire>(pass: Pass, wire: &mut W, elicited: &mut Elicited, now: u64) -> Pass
+pub(crate) fn elicit<R: Wait, S: Stepping, W: Wire>(
+    rt: &R,
+    steps: &mut S,
+    pass: Pass,
+    wire: &mut W,
+    elicited: &mut Elicited,
+    now: u64,
+) -> Pass
     ensures known { IsContinuedBy pass result }
-    ensures wire { (letters : List Letter) × Elicits now result elicited.old elicited.new letters
-        × GoesOn (AreTried letters) (W.went wire.old) (W.went wire.new) }
+    ensures wire { GoesOn (Elicits now pass result elicited.old elicited.new) (Trail (S.did steps.old) (W.went wire.old)) (Trail (S.did steps.new) (W.went wire.new)) }
 {
     elicited.take();
-    match pass.enter() {
+    match steps.look(pass) {
         Ok(look) => {
             let registry = look.registry();
             elicited.look(registry, now);
             let receiver_id = registry.settings().receiver_id;
             let pass = look.leave();
-            send_each(wire, receiver_id, elicited.wanted.as_slice());
+            send_each(rt, steps, wire, receiver_id, elicited.wanted.as_slice());
             pass
         }
         Err(pass) => pass,

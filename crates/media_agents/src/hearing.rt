@@ -3,151 +3,29 @@
 ghost use Rattle.driver_steps.specs.Packets.{IsSoundContent};
 ghost use Rattle.driver_core.specs.declared.event.Event.TheVariants.{Setup as SetUp};
 ghost use Rattle.frame_codec.specs.Datagram.{content, packet_of};
+ghost use Rattle.media_agents.specs.Acts.{GoesOn, Trail};
 ghost use Rattle.published_registry.specs.Histories.{IsContinuedBy};
+ghost use Rattle.media_agents.specs.declared.stepping.Stepped.{Stepped as It};
 ghost use Rattle.media_agents.specs.SetUps.{Goes, IsLost, SetsUpIfRead};
-ghost use Rattle.media_agents.specs.Traffic.{AreSentFrom, GoesOn};
-ghost use Rattle.std.specs.Prelude.{MatchBool};
+ghost use Rattle.media_agents.specs.Traffic.{Answers, ReceiverHears, SenderHears, Takes};
+ghost use Rattle.std.specs.Prelude.{IfSome, MatchBool, Option};
 
-use crate::finding::find;
 use crate::set_ups::SetUps;
-use crate::slots::Slots;
+use crate::stepping::Stepping;
 use crate::telling::tell;
 use channel_uri::Address;
-use driver_core::{Astray, Event, View};
-use driver_steps::{Answer, Cause, packet_request};
+use driver_core::Event;
+use drop_tallies::Miss;
 use frame_codec::{Datagram, Packet, Setup, frames_are_of_one_term, frames_are_told};
-use log_slots::{LogSlot, Naming, Slot, lock_soon};
 use media_wire::Wire;
 use published_registry::Pass;
 use std::alloc::Global;
-use std::sync::{Mutex, Wait};
+use std::sync::Wait;
 
-/// It is for no log, or from a stranger.
-fn strayed(why: Astray) -> Answer {
-    Answer::Dropped(Cause::Astray(why))
-}
-
-/// One hold of a publication's lock, with one look within it: a datagram comes to its log, as the registry of the look says.
-/// What comes of it is `None` where there is no look.
-fn come_to_publication<N: Naming, R: Wait>(
+/// Data or a heartbeat comes to the image that it is for, and what comes of it is noted.
+fn take<R: Wait, S: Stepping>(
     rt: &R,
-    slot: &Mutex<Slot<N>>,
-    pass: Pass,
-    alloc: Global,
-    now: u64,
-    local: &Address,
-    from: &Address,
-    packet: Packet<'_>,
-) -> (Pass, Option<Answer>)
-    requires { IsSoundContent (content packet) }
-    ensures { IsContinuedBy pass result.0 }
-{
-    let mut slot = lock_soon(rt, slot);
-    match pass.enter() {
-        Ok(look) => {
-            let answer = match packet_request(&look, local, from, &packet) {
-                Ok(request) => match slot.packet(alloc, now, from, packet, &request) {
-                    Ok(told) => told.answer,
-                    Err(_) => Answer::NoMemory,
-                },
-                Err(why) => strayed(why),
-            };
-            (look.leave(), Some(answer))
-        }
-        Err(pass) => (pass, None),
-    }
-}
-
-/// As [`come_to_publication`], of an image.
-fn come_to_image<N: Naming, R: Wait>(
-    rt: &R,
-    slot: &Mutex<LogSlot<N>>,
-    pass: Pass,
-    alloc: Global,
-    now: u64,
-    local: &Address,
-    from: &Address,
-    packet: Packet<'_>,
-) -> (Pass, Option<Answer>)
-    requires { IsSoundContent (content packet) }
-    ensures { IsContinuedBy pass result.0 }
-{
-    let mut slot = lock_soon(rt, slot);
-    match pass.enter() {
-        Ok(look) => {
-            let answer = match packet_request(&look, local, from, &packet) {
-                Ok(request) => match slot.packet(alloc, now, from, packet, &request) {
-                    Ok(told) => told.answer,
-                    Err(_) => Answer::NoMemory,
-                },
-                Err(why) => strayed(why),
-            };
-            (look.leave(), Some(answer))
-        }
-        Err(pass) => (pass, None),
-    }
-}
-
-/// A NAK or a status message comes to the publication that it is for. What comes of it.
-fn hear_publication<N: Naming, R: Wait>(
-    rt: &R,
-    slots: &Slots<N>,
-    pass: Pass,
-    alloc: Global,
-    now: u64,
-    local: &Address,
-    from: &Address,
-    packet: Packet<'_>,
-) -> (Pass, Option<Answer>)
-    requires { IsSoundContent (content packet) }
-    ensures { IsContinuedBy pass result.0 }
-{
-    let (pass, found) = find(pass, local, from, &packet);
-    let Some(found) = found else {
-        return (pass, None);
-    };
-    let at = match found {
-        Ok(at) => at,
-        Err(why) => return (pass, Some(strayed(why))),
-    };
-    match slots.publications.get(at.slot as usize) {
-        Some(slot) => come_to_publication(rt, slot, pass, alloc, now, local, from, packet),
-        None => (pass, None),
-    }
-}
-
-/// The frames of data, or a heartbeat, come to the image that they are for. What comes of them.
-fn hear_image<N: Naming, R: Wait>(
-    rt: &R,
-    slots: &Slots<N>,
-    pass: Pass,
-    alloc: Global,
-    now: u64,
-    local: &Address,
-    from: &Address,
-    packet: Packet<'_>,
-) -> (Pass, Option<Answer>)
-    requires { IsSoundContent (content packet) }
-    ensures { IsContinuedBy pass result.0 }
-{
-    let (pass, found) = find(pass, local, from, &packet);
-    let Some(found) = found else {
-        return (pass, None);
-    };
-    let at = match found {
-        Ok(at) => at,
-        Err(why) => return (pass, Some(strayed(why))),
-    };
-    match slots.images.get(at.slot as usize) {
-        Some(slot) => come_to_image(rt, slot, pass, alloc, now, local, from, packet),
-        None => (pass, None),
-    }
-}
-
-/// The frames of data, or a heartbeat, come to the image that they are for. It is counted where they are dropped.
-fn take_image<N: Naming, R: Wait>(
-    rt: &R,
-    slots: &Slots<N>,
+    steps: &mut S,
     pass: Pass,
     alloc: Global,
     now: u64,
@@ -156,20 +34,55 @@ fn take_image<N: Naming, R: Wait>(
     packet: Packet<'_>,
 ) -> Pass
     requires { IsSoundContent (content packet) }
-    ensures { IsContinuedBy pass result }
+    ensures known { IsContinuedBy pass result }
+    ensures takes { GoesOn (Takes now local.now from.now (content packet.entry) pass result) (S.did steps.old) (S.did steps.new) }
 {
-    let (pass, answer) = hear_image(rt, slots, pass, alloc, now, local, from, packet);
-    if let Some(answer) = answer {
-        slots.note_answer(rt, &answer, from);
+    let (pass, it) = steps.hear(rt, pass, alloc, now, local, from, packet);
+    match it {
+        Some(it) => {
+            steps.note_packet(rt, &it, from);
+            pass
+        }
+        None => pass,
     }
-    pass
+}
+
+/// A NAK or a status message comes to the publication that it is for. What comes of it is noted, and what it asks for is sent,
+/// from the address `local`.
+fn answer<R: Wait, S: Stepping, W: Wire>(
+    rt: &R,
+    steps: &mut S,
+    pass: Pass,
+    wire: &mut W,
+    alloc: Global,
+    now: u64,
+    local: &Address,
+    at: &Address,
+    from: &Address,
+    packet: Packet<'_>,
+) -> Pass
+    requires { IsSoundContent (content packet) }
+    ensures known { IsContinuedBy pass result }
+    ensures answers { (it : Option It)
+        × GoesOn (Answers now local.now at.now from.now (content packet.entry) it pass result) (Trail (S.did steps.old) (W.went wire.old)) (Trail (S.did steps.new) (W.went wire.new)) }
+{
+    let (pass, it) = steps.hear(rt, pass, alloc, now, at, from, packet);
+    match it {
+        Some(it) => {
+            steps.note_packet(rt, &it, from);
+            tell(rt, steps, wire, local, &it.answer);
+            pass
+        }
+        None => pass,
+    }
 }
 
 /// A datagram came to the address `at`, where the sender reads. NAKs and status messages are its steps, and what a NAK asks for
-/// is sent again, from the address `local`, once the log's lock is let go. Any other datagram is lost.
-pub(crate) fn hear_as_sender<N: Naming, R: Wait, W: Wire>(
+/// is sent again, from the address `local`, once the log's lock is let go. Any other datagram is lost, and counts where its bytes
+/// are none.
+pub(crate) fn hear_as_sender<R: Wait, S: Stepping, W: Wire>(
     rt: &R,
-    slots: &Slots<N>,
+    steps: &mut S,
     pass: Pass,
     wire: &mut W,
     alloc: Global,
@@ -180,25 +93,41 @@ pub(crate) fn hear_as_sender<N: Naming, R: Wait, W: Wire>(
     bytes: &[u8],
 ) -> Pass
     ensures known { IsContinuedBy pass result }
-    ensures wire { GoesOn (AreSentFrom local.now) (W.went wire.old) (W.went wire.new) }
+    ensures heard { GoesOn (SenderHears now local.now at.now from.now (packet_of bytes.now) pass result) (Trail (S.did steps.old) (W.went wire.old)) (Trail (S.did steps.new) (W.went wire.new)) }
 {
-    let packet = match Datagram::read(bytes) {
-        Ok(Packet::Nak(nak)) => Packet::Nak(nak),
-        Ok(Packet::Sm(message)) => Packet::Sm(message),
-        _ => {
-            slots.note_unread(rt, bytes, from);
-            return pass;
+    match Datagram::read(bytes) {
+        Ok(Packet::Nak(nak)) => {
+            steps.note_nak(rt);
+            answer(
+                rt,
+                steps,
+                pass,
+                wire,
+                alloc,
+                now,
+                local,
+                at,
+                from,
+                Packet::Nak(nak),
+            )
         }
-    };
-    slots.note_nak(rt, &packet);
-    let (pass, answer) = hear_publication(rt, slots, pass, alloc, now, at, from, packet);
-    match answer {
-        Some(answer) => {
-            slots.note_answer(rt, &answer, from);
-            tell(wire, local, &answer);
+        Ok(Packet::Sm(message)) => answer(
+            rt,
+            steps,
+            pass,
+            wire,
+            alloc,
+            now,
+            local,
+            at,
+            from,
+            Packet::Sm(message),
+        ),
+        Ok(_) => pass,
+        Err(_) => {
+            steps.note(rt, Miss::Unread, from);
             pass
         }
-        None => pass,
     }
 }
 
@@ -223,10 +152,10 @@ fn set_up<R: Wait>(
 }
 
 /// A datagram came to an address where subscriptions take them. Data and heartbeats are the receiver's steps, and a SETUP is
-/// an event of the conductor. Any other datagram is lost.
-pub(crate) fn hear_as_receiver<N: Naming, R: Wait>(
+/// an event of the conductor. Any other datagram is lost, and counts where its bytes are none.
+pub(crate) fn hear_as_receiver<R: Wait, S: Stepping>(
     rt: &R,
-    slots: &Slots<N>,
+    steps: &mut S,
     pass: Pass,
     set_ups: &mut SetUps,
     alloc: Global,
@@ -237,14 +166,15 @@ pub(crate) fn hear_as_receiver<N: Naming, R: Wait>(
 ) -> Pass
     ensures known { IsContinuedBy pass result }
     ensures set_ups { SetsUpIfRead now local.now from.now (packet_of bytes.now) set_ups.old set_ups.new }
+    ensures heard { GoesOn (ReceiverHears now local.now from.now (packet_of bytes.now) (pass, set_ups.old) (result, set_ups.new)) (S.did steps.old) (S.did steps.new) }
 {
     match Datagram::read(bytes) {
         Ok(Packet::Data(frames)) => {
             frames_are_told();
             frames_are_of_one_term();
-            take_image(
+            take(
                 rt,
-                slots,
+                steps,
                 pass,
                 alloc,
                 now,
@@ -253,26 +183,25 @@ pub(crate) fn hear_as_receiver<N: Naming, R: Wait>(
                 Packet::Data(frames),
             )
         }
-        Ok(Packet::Beat(header)) => {
-            take_image(
-                rt,
-                slots,
-                pass,
-                alloc,
-                now,
-                local,
-                from,
-                Packet::Beat(header),
-            )
-        }
+        Ok(Packet::Beat(header)) => take(
+            rt,
+            steps,
+            pass,
+            alloc,
+            now,
+            local,
+            from,
+            Packet::Beat(header),
+        ),
         Ok(Packet::Setup(setup)) => {
             if !set_up(rt, set_ups, now, local, from, setup) {
-                slots.note_lost(rt, from);
+                steps.note(rt, Miss::QueueFull, from);
             }
             pass
         }
-        _ => {
-            slots.note_unread(rt, bytes, from);
+        Ok(_) => pass,
+        Err(_) => {
+            steps.note(rt, Miss::Unread, from);
             pass
         }
     }

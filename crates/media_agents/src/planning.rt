@@ -1,10 +1,13 @@
 //! An event is planned on the newest registry, with what the logs say.
 
-ghost use Rattle.driver_core.specs.Conduct.{outcome_of, state_after};
+ghost use Rattle.driver_core.specs.Conduct.{state_after};
 ghost use Rattle.driver_core.specs.Soundness.{IsSound};
+ghost use Rattle.driver_steps.specs.Opening.{memory_of};
+ghost use Rattle.log_slots.specs.Opening.{room_of};
 ghost use Rattle.media_agents.specs.Asking.{AreSilent, Gathers, Joins, closing};
+ghost use Rattle.media_agents.specs.Following.{coming};
 ghost use Rattle.published_registry.specs.Histories.{IsPlannedOn};
-ghost use Rattle.std.specs.Prelude.{◌≡◌, [], IfOk};
+ghost use Rattle.std.specs.Prelude.{◌≡◌, IfOk};
 
 use crate::aftermath::Aftermath;
 use crate::pairing::join;
@@ -61,6 +64,8 @@ fn make_ready(
     ensures closes { IfOk result (λ planned. planned.aftermath.closes ≡ closing registry.now entry.outcome.closes) }
     ensures gone { IfOk result (λ planned. planned.aftermath.gone ≡ entry.outcome.gone) }
     ensures replies { IfOk result (λ planned. planned.aftermath.replies ≡ entry.outcome.replies) }
+    ensures decisions { IfOk result (λ planned. planned.aftermath.decisions ≡ entry.outcome.decisions) }
+    ensures memory { IfOk result (λ planned. planned.memory ≡ memory) }
 {
     let aftermath = Aftermath::of(alloc, registry, &entry.outcome)?;
     Ok(Planned {
@@ -87,6 +92,8 @@ fn plan_with(
     ensures closes { IfOk result (λ ready. ready.aftermath.closes ≡ closing registry.now ready.entry.outcome.closes) }
     ensures gone { IfOk result (λ ready. ready.aftermath.gone ≡ ready.entry.outcome.gone) }
     ensures replies { IfOk result (λ ready. ready.aftermath.replies ≡ ready.entry.outcome.replies) }
+    ensures decisions { IfOk result (λ ready. ready.aftermath.decisions ≡ ready.entry.outcome.decisions) }
+    ensures memory { IfOk result (λ ready. room_of ready.memory ≡ memory_of event.now) }
 {
     let entry = plan_at(alloc, registry, event, silent, ends)?;
     let memory = memory_for(alloc, event)?;
@@ -117,7 +124,7 @@ pub(crate) fn foresee<N: Naming, L: Logs<N>, R: Wait>(
     event: &Event,
 ) -> Result<Foreseen, AllocError>
     ensures silent { IfOk result (λ foreseen. AreSilent (L.held logs.now) registry.now event.now foreseen.silent) }
-    ensures come { IfOk result (λ foreseen. foreseen.come ≡ (outcome_of registry.now event.now (record { silent = foreseen.silent; ends = [] })).come) }
+    ensures come { IfOk result (λ foreseen. foreseen.come ≡ coming registry.now event.now foreseen.silent) }
 {
     let silent = silent_of(rt, alloc, logs, registry, event)?;
     let draft = plan_at(alloc, registry, event, silent.as_slice(), Items::new(alloc))?;
@@ -151,6 +158,8 @@ pub(crate) fn plan_joined<N: Naming, L: Logs<N>, R: Wait>(
     ensures closes { IfOk result (λ ready. ready.aftermath.closes ≡ closing registry.now ready.entry.outcome.closes) }
     ensures gone { IfOk result (λ ready. ready.aftermath.gone ≡ ready.entry.outcome.gone) }
     ensures replies { IfOk result (λ ready. ready.aftermath.replies ≡ ready.entry.outcome.replies) }
+    ensures decisions { IfOk result (λ ready. ready.aftermath.decisions ≡ ready.entry.outcome.decisions) }
+    ensures memory { IfOk result (λ ready. room_of ready.memory ≡ memory_of event.now) }
 {
     let ends = join(rt, alloc, logs, registry, room, foreseen.come.as_slice())?;
     plan_with(alloc, registry, event, foreseen.silent.as_slice(), ends)

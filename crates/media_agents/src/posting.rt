@@ -40,7 +40,7 @@ impl EventSender {
         EventSender { sender, known }
     }
 
-    /// Puts an event at the back of the queue. `Refused` hands it back, only where the queue held 1,024 events at one moment
+    /// Puts an event at the back of the queue. `Refused` steps it back, only where the queue held 1,024 events at one moment
     /// of the call; nothing was sent then. It takes no memory.
     pub fn push<R: Wait>(&mut self, rt: &R, event: Event) -> Result<(), Refused<Event>>
         ensures sent { MatchResult result (λ _. self.new ≡ record self.old { sent = self.old.sent ++ event ∷ [] })

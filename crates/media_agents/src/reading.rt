@@ -1,11 +1,15 @@
 //! The datagrams that come to one address.
 
-ghost use Rattle.media_agents.specs.Traffic.{GoesOn, IsReading};
-ghost use Rattle.std.specs.Prelude.{◌≡◌, ◌≤◌, ◌∷◌, [], IfSome, vec_len};
+ghost use Rattle.media_agents.specs.Acts.{GoesOn, Trail};
+ghost use Rattle.media_agents.specs.Traffic.{IsReading};
+ghost use Rattle.std.specs.Prelude.{◌≡◌, ◌≤◌, ◌∷◌, [], IfSome, take, vec_len};
 
+use crate::stepping::Stepping;
 use channel_uri::Address;
+use drop_tallies::Miss;
 use media_wire::{LONGEST, Wire};
 use std::alloc::{AllocError, Global};
+use std::sync::Wait;
 
 /// How many datagrams a turn reads at one address at most.
 pub(crate) const MOST: u32 = 1024;
@@ -25,24 +29,30 @@ impl Room {
     }
 
     /// Reads the next datagram that came to an address: how long it is, and where it is from. `None` where none is there, or
-    /// the read failed.
-    pub(crate) fn next<W: Wire>(
+    /// the read failed, which is counted.
+    pub(crate) fn next<R: Wait, S: Stepping, W: Wire>(
         &mut self,
+        rt: &R,
+        steps: &mut S,
         wire: &mut W,
         local: &Address,
     ) -> Option<(usize, Address)>
         ensures within { IfSome result (λ read. read.0 ≤ vec_len self.new.bytes) }
-        ensures wire { GoesOn (IsReading local.now result) (W.went wire.old) (W.went wire.new) }
+        ensures wire { GoesOn (IsReading local.now result self.new.bytes.items) (Trail (S.did steps.old) (W.went wire.old)) (Trail (S.did steps.new) (W.went wire.new)) }
     {
         match wire.recv(local, &mut self.bytes) {
             Ok(read) => read,
-            Err(_) => None,
+            Err(_) => {
+                steps.note(rt, Miss::Unheard, local);
+                None
+            }
         }
     }
 
     /// The bytes of the datagram that was read last, which is so long.
     pub(crate) fn datagram(&self, length: usize) -> &[u8]
         requires { length ≤ vec_len self.now.bytes }
+        ensures { result.now ≡ take length self.now.bytes.items }
     {
         &self.bytes[..length]
     }

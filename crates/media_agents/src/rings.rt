@@ -1,7 +1,7 @@
 //! The rings by which clients get their replies.
 
 ghost use Rattle.media_agents.specs.Mails.{IsReplyOf, Posts, PostsTo, RingState, assigned};
-ghost use Rattle.rtrb.specs.Ring.{sent};
+ghost use Rattle.rtrb.specs.Ring.{known_free, sent};
 ghost use Rattle.std.specs.Prelude.{◌≡◌, ◌≢◌, ◌<◌, All, IfNone, IfSome, Some, length, slice_get};
 
 use crate::mail::{ClientReply, Mail};
@@ -23,17 +23,17 @@ pub struct Ring<N: DriverNaming> {
 
 impl<N: DriverNaming> Model for Ring<N> {
     ghost use Rattle.media_agents.specs.Mails.{RingState};
-    ghost use Rattle.rtrb.specs.Ring.{sent};
+    ghost use Rattle.rtrb.specs.Ring.{known_free, sent};
 
     ghost Value = { RingState };
 
-    ghost view = { λ ring. record { client = ring.client; lost = ring.lost; sent = sent ring.mails } };
+    ghost view = { λ ring. record { client = ring.client; lost = ring.lost; sent = sent ring.mails; free = known_free ring.mails } };
 }
 
 impl<N: DriverNaming> Ring<N> {
     /// A ring that is no client's yet.
     pub fn new(mails: Producer<Mail<N>, Global>) -> Ring<N>
-        ensures { result ≡ record { client = 0; lost = 0; sent = sent mails } }
+        ensures { result ≡ record { client = 0; lost = 0; sent = sent mails; free = known_free mails } }
     {
         Ring {
             client: 0,
@@ -57,7 +57,8 @@ impl<N: DriverNaming> Ring<N> {
         self.lost = 0;
     }
 
-    /// Puts a reply into the ring. One that finds it full is dropped and counted. It takes no memory.
+    /// Puts a reply into the ring. One that finds it full is dropped and counted; no place was known to be free then. It takes no
+    /// memory.
     fn post(&mut self, receipt: &Receipt, reply: ClientReply)
         requires ours { receipt.now.book ≡ N.book }
         requires held { IsReplyOf receipt.now self.old.client reply }

@@ -1,31 +1,33 @@
 //! The sender's turns.
 
-ghost use Rattle.media_agents.specs.Agents.{SendsBy};
+ghost use Rattle.media_agents.specs.Acts.{GoesOn, Trail};
+ghost use Rattle.media_agents.specs.Agents.{Sends};
+ghost use Rattle.media_agents.specs.declared.stepping.Stepped.{Stepped as It};
 ghost use Rattle.media_agents.specs.Passing.{next_turn};
-ghost use Rattle.media_agents.specs.Traffic.{AreSentFrom, GoesOn, HearsEach, IsHeard, ReadsOut};
+ghost use Rattle.media_agents.specs.Traffic.{Chain, HearsOut, SenderTakes, SendsOne, SendsRun, was_due};
 ghost use Rattle.published_registry.specs.Histories.{IsContinuedBy};
-ghost use Rattle.std.specs.Prelude.{◌≡◌, Bool, IfOk};
+ghost use Rattle.std.specs.Prelude.{◌≡◌, Bool, IfOk, Option, max};
 
 use crate::finding::{find_controls, find_publications};
 use crate::gate::{Agent, Gate, Turn};
 use crate::hearing::hear_as_sender;
+use crate::noting::is_cut;
 use crate::reading::{MOST, Room};
-use crate::slots::{LogAt, Slots};
+use crate::slots::LogAt;
+use crate::stepping::Stepping;
 use crate::telling::tell;
 use channel_uri::Address;
-use driver_steps::Answer;
-use log_slots::{Naming, Slot, lock_soon};
 use media_wire::Wire;
 use published_registry::Pass;
 use rows::Rows;
 use std::alloc::{AllocError, Global};
 use std::marker::Model;
-use std::sync::{Arc, Mutex, Wait};
+use std::sync::{Arc, Wait};
 
 /// Reads the datagrams at the address `at`: until none is there, a read fails, or 1,024 are read. Whether there was one.
-fn hear_all<N: Naming, R: Wait, W: Wire>(
+fn hear_all<R: Wait, S: Stepping, W: Wire>(
     rt: &R,
-    slots: &Slots<N>,
+    steps: &mut S,
     pass: Pass,
     wire: &mut W,
     room: &mut Room,
@@ -35,14 +37,14 @@ fn hear_all<N: Naming, R: Wait, W: Wire>(
     at: &Address,
 ) -> (Pass, bool)
     ensures known { IsContinuedBy pass result.0 }
-    ensures wire { GoesOn (ReadsOut (IsHeard local.now at.now) at.now) (W.went wire.old) (W.went wire.new) }
+    ensures hears { GoesOn (HearsOut (SenderTakes now local.now) at.now pass result.0) (Trail (S.did steps.old) (W.went wire.old)) (Trail (S.did steps.new) (W.went wire.new)) }
 {
     let mut pass = pass;
     for count in 0..MOST {
-        match room.next(wire, at) {
+        match room.next(rt, steps, wire, at) {
             Some(read) => {
                 let bytes = room.datagram(read.0);
-                pass = hear_as_sender(rt, slots, pass, wire, alloc, now, local, at, &read.1, bytes);
+                pass = hear_as_sender(rt, steps, pass, wire, alloc, now, local, at, &read.1, bytes);
             }
             None => return (pass, count > 0),
         }
@@ -51,9 +53,9 @@ fn hear_all<N: Naming, R: Wait, W: Wire>(
 }
 
 /// The same at each of these addresses.
-fn hear_each<N: Naming, R: Wait, W: Wire>(
+fn hear_each<R: Wait, S: Stepping, W: Wire>(
     rt: &R,
-    slots: &Slots<N>,
+    steps: &mut S,
     pass: Pass,
     wire: &mut W,
     room: &mut Room,
@@ -63,44 +65,22 @@ fn hear_each<N: Naming, R: Wait, W: Wire>(
     controls: &[Address],
 ) -> (Pass, bool)
     ensures known { IsContinuedBy pass result.0 }
-    ensures wire { GoesOn (HearsEach local.now controls.now) (W.went wire.old) (W.went wire.new) }
+    ensures hears { GoesOn (Chain (HearsOut (SenderTakes now local.now)) controls.now pass result.0) (Trail (S.did steps.old) (W.went wire.old)) (Trail (S.did steps.new) (W.went wire.new)) }
 {
     let mut pass = pass;
     let mut worked = false;
     for at in controls {
-        let (next, heard) = hear_all(rt, slots, pass, wire, room, alloc, now, local, at);
+        let (next, heard) = hear_all(rt, steps, pass, wire, room, alloc, now, local, at);
         pass = next;
         worked = worked || heard;
     }
     (pass, worked)
 }
 
-/// One hold of a publication's lock, with one look within it: a datagram is cut from its log, if one is due. `None` where
-/// there is no look or no memory.
-fn cut<N: Naming, R: Wait>(
+/// One turn with one log: what is due is noted, and goes out once the log's lock is let go. Whether anything was due.
+fn send_one<R: Wait, S: Stepping, W: Wire>(
     rt: &R,
-    slot: &Mutex<Slot<N>>,
-    pass: Pass,
-    alloc: Global,
-    now: u64,
-    source: u64,
-) -> (Pass, Option<Answer>)
-    ensures { IsContinuedBy pass result.0 }
-{
-    let mut slot = lock_soon(rt, slot);
-    match pass.enter() {
-        Ok(look) => {
-            let answer = slot.send(&look, alloc, now, source);
-            (look.leave(), answer.ok())
-        }
-        Err(pass) => (pass, None),
-    }
-}
-
-/// One step on one log: what is due goes out once the log's lock is let go. Whether anything was due.
-fn send_one<N: Naming, R: Wait, W: Wire>(
-    rt: &R,
-    slots: &Slots<N>,
+    steps: &mut S,
     pass: Pass,
     wire: &mut W,
     alloc: Global,
@@ -109,17 +89,16 @@ fn send_one<N: Naming, R: Wait, W: Wire>(
     at: LogAt,
 ) -> (Pass, bool)
     ensures known { IsContinuedBy pass result.0 }
-    ensures wire { GoesOn (AreSentFrom local.now) (W.went wire.old) (W.went wire.new) }
+    ensures sends { (it : Option It) × (result.1 ≡ was_due it)
+        × GoesOn (SendsOne now local.now at it pass result.0) (Trail (S.did steps.old) (W.went wire.old)) (Trail (S.did steps.new) (W.went wire.new)) }
 {
-    let Some(slot) = slots.publications.get(at.slot as usize) else {
-        return (pass, false);
-    };
-    let (pass, answer) = cut(rt, slot, pass, alloc, now, at.source);
-    match answer {
-        Some(answer) => {
-            slots.note_withheld(rt, &answer);
-            tell(wire, local, &answer);
-            (pass, matches!(answer, Answer::Sent { .. }))
+    let (pass, it) = steps.send(rt, pass, alloc, now, at);
+    match it {
+        Some(it) => {
+            steps.note_sending(rt, &it);
+            tell(rt, steps, wire, local, &it.answer);
+            let due = is_cut(&it.answer);
+            (pass, due)
         }
         None => (pass, false),
     }
@@ -128,10 +107,10 @@ fn send_one<N: Naming, R: Wait, W: Wire>(
 /// How many datagrams of one log go out in a turn at most.
 const BURST: u32 = 16;
 
-/// Steps on one log, one after another: until nothing is due, or so many had something due. Whether anything was.
-fn send_run<N: Naming, R: Wait, W: Wire>(
+/// Turns with one log, one after another: until nothing is due, or so many had something due. Whether anything was.
+fn send_run<R: Wait, S: Stepping, W: Wire>(
     rt: &R,
-    slots: &Slots<N>,
+    steps: &mut S,
     pass: Pass,
     wire: &mut W,
     alloc: Global,
@@ -140,11 +119,11 @@ fn send_run<N: Naming, R: Wait, W: Wire>(
     at: LogAt,
 ) -> (Pass, bool)
     ensures known { IsContinuedBy pass result.0 }
-    ensures wire { GoesOn (AreSentFrom local.now) (W.went wire.old) (W.went wire.new) }
+    ensures sends { GoesOn (SendsRun now local.now at pass result.0) (Trail (S.did steps.old) (W.went wire.old)) (Trail (S.did steps.new) (W.went wire.new)) }
 {
     let mut pass = pass;
     for count in 0..BURST {
-        let (next, sent) = send_one(rt, slots, pass, wire, alloc, now, local, at);
+        let (next, sent) = send_one(rt, steps, pass, wire, alloc, now, local, at);
         if !sent {
             return (next, count > 0);
         }
@@ -153,24 +132,24 @@ fn send_run<N: Naming, R: Wait, W: Wire>(
     (pass, true)
 }
 
-/// The steps that are due on each of these logs, in their order. Whether any was.
-fn send_each<N: Naming, R: Wait, W: Wire>(
+/// The turns that are due with each of these logs, in their order. Whether any was.
+fn send_each<R: Wait, S: Stepping, W: Wire>(
     rt: &R,
-    slots: &Slots<N>,
+    steps: &mut S,
     pass: Pass,
     wire: &mut W,
     alloc: Global,
     now: u64,
     local: &Address,
-    logs: &[LogAt],
+    all: &[LogAt],
 ) -> (Pass, bool)
     ensures known { IsContinuedBy pass result.0 }
-    ensures wire { GoesOn (AreSentFrom local.now) (W.went wire.old) (W.went wire.new) }
+    ensures sends { GoesOn (Chain (SendsRun now local.now) all.now pass result.0) (Trail (S.did steps.old) (W.went wire.old)) (Trail (S.did steps.new) (W.went wire.new)) }
 {
     let mut pass = pass;
     let mut worked = false;
-    for at in logs {
-        let (next, sent) = send_run(rt, slots, pass, wire, alloc, now, local, *at);
+    for at in all {
+        let (next, sent) = send_run(rt, steps, pass, wire, alloc, now, local, *at);
         pass = next;
         worked = worked || sent;
     }
@@ -179,8 +158,8 @@ fn send_each<N: Naming, R: Wait, W: Wire>(
 
 /// The sender: it sends what publications have, and sends again what NAKs ask for.
 #[derive(Drop)]
-pub struct SenderAgent<N: Naming, G: Gate> {
-    slots: Arc<Slots<N>>,
+pub struct SenderAgent<S, G: Gate> {
+    steps: S,
     gate: Arc<G>,
     /// It is taken out for as long as a turn lasts.
     pass: Option<Pass>,
@@ -190,98 +169,104 @@ pub struct SenderAgent<N: Naming, G: Gate> {
     /// Where the turn reads beside the address that it sends from.
     controls: Rows<Address, 512>,
     /// The logs of the turn.
-    logs: Rows<LogAt, 256>,
+    all: Rows<LogAt, 256>,
     alloc: Global,
+    /// The greatest moment of its turns, in nanoseconds.
+    moment: u64,
     turn: Turn,
 }
 
-impl<N: Naming, G: Gate> Model for SenderAgent<N, G> {
+impl<S, G: Gate> Model for SenderAgent<S, G> {
     ghost use Rattle.media_agents.specs.Agents.{Sending};
     ghost use Rattle.published_registry.specs.Histories.{history_in};
     ghost use Rattle.std.specs.Prelude.{IsSome};
 
-    ghost Value = { Sending };
+    ghost Value = { Sending S };
 
-    ghost view = { λ agent. record { local = agent.local; known = history_in agent.pass; turn = agent.turn } };
+    ghost view = { λ agent. record { steps = agent.steps; local = agent.local; known = history_in agent.pass; moment = agent.moment; turn = agent.turn } };
 
     ghost invariant = { λ agent. IsSome agent.pass };
 }
 
-impl<N: Naming, G: Gate + Drop> SenderAgent<N, G> {
+impl<S: Stepping + Drop, G: Gate + Drop> SenderAgent<S, G> {
     /// A sender before its first turn, which sends from the address `local`.
     pub fn new(
         alloc: Global,
-        slots: Arc<Slots<N>>,
+        steps: S,
         gate: Arc<G>,
         pass: Pass,
         local: Address,
-    ) -> Result<SenderAgent<N, G>, AllocError>
-        ensures { IfOk result (λ agent. agent ≡ record { local = local; known = pass; turn = record { number = 0; idle = 0 } }) }
+    ) -> Result<SenderAgent<S, G>, AllocError>
+        ensures { IfOk result (λ agent. agent ≡ record { steps = steps; local = local; known = pass; moment = 0; turn = record { number = 0; idle = 0 } }) }
     {
         Ok(SenderAgent {
-            slots,
+            steps,
             gate,
             pass: Some(pass),
             local,
             room: Room::new(alloc)?,
             controls: Rows::new(alloc)?,
-            logs: Rows::new(alloc)?,
+            all: Rows::new(alloc)?,
             alloc,
+            moment: 0,
             turn: Turn::first(),
         })
     }
 
-    /// A turn, at the moment `now` in nanoseconds, once the gate lets it pass. The datagrams that came to the address that it
-    /// sends from are read, 1,024 at most, and then those at each address where publications of a look learn their destinations:
-    /// a NAK or a status message is a step on its publication. Then each publication over datagrams of a second look has its
-    /// steps, in the order of their numbers: one after another until nothing is due, 16 at most. Each step is one hold of the
-    /// log's lock, with one look within it; the datagrams of its answer go out once the lock is let go, and a send that fails is
-    /// a datagram lost.
+    /// A turn, at the moment `now` in nanoseconds, once the gate lets it pass. Where an earlier turn had a later moment, that
+    /// counts. The datagrams that came to the address that it sends from are read, 1,024 at most, and then those at each address
+    /// where publications of a look learn their destinations: a NAK or a status message is a step on its publication. Then each
+    /// publication over datagrams of a second look has its steps, in the order of their numbers: one after another until nothing
+    /// is due, 16 at most. Each step is one hold of the log's lock, with one look within it; what came of it is written into the
+    /// journal, once, and then the datagrams of its answer go out. A send that fails is a datagram lost, and counted, and so is a
+    /// read that fails.
     pub fn turn<R: Wait, W: Wire>(&mut self, rt: &R, wire: &mut W, now: u64)
         ensures known { IsContinuedBy self.old.known self.new.known }
-        ensures local { self.new.local ≡ self.old.local }
+        ensures same { self.new ≡ record self.old { steps = self.new.steps; known = self.new.known; moment = max now self.old.moment; turn = self.new.turn } }
         ensures turn { (worked : Bool) × (self.new.turn ≡ next_turn worked self.old.turn) }
-        ensures wire { SendsBy self.old.local self.old.known self.new.known (W.went wire.old) (W.went wire.new) }
+        ensures sends { GoesOn (Sends self.new.moment self.old.local self.old.known self.new.known) (Trail (S.did self.old.steps) (W.went wire.old)) (Trail (S.did self.new.steps) (W.went wire.new)) }
     {
         self.gate.pass(Agent::Sender, self.turn);
         let Some(pass) = self.pass.take() else {
             unreachable!()
         };
+        let moment = now.max(self.moment);
+        self.moment = moment;
         let (pass, heard) = hear_all(
             rt,
-            &self.slots,
+            &mut self.steps,
             pass,
             wire,
             &mut self.room,
             self.alloc,
-            now,
+            moment,
             &self.local,
             &self.local,
         );
-        let pass = find_controls(pass, &mut self.controls);
+        let pass = find_controls(&mut self.steps, pass, &mut self.controls);
         let controls = self.controls.as_slice();
         let (pass, told) = hear_each(
             rt,
-            &self.slots,
+            &mut self.steps,
             pass,
             wire,
             &mut self.room,
             self.alloc,
-            now,
+            moment,
             &self.local,
             controls,
         );
-        let pass = find_publications(pass, &mut self.logs);
-        let logs = self.logs.as_slice();
+        let pass = find_publications(&mut self.steps, pass, &mut self.all);
+        let all = self.all.as_slice();
         let (pass, sent) = send_each(
             rt,
-            &self.slots,
+            &mut self.steps,
             pass,
             wire,
             self.alloc,
-            now,
+            moment,
             &self.local,
-            logs,
+            all,
         );
         wire.turn_ended();
         self.pass = Some(pass);

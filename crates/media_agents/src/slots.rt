@@ -1,12 +1,13 @@
 ghost use Rattle.any_log.specs.Held.{made_held, messages_held, place_held};
 ghost use Rattle.log_slots.specs.Slots.{IsMadeFor, SlotLog};
-ghost use Rattle.media_agents.specs.Asking.{Closes, IsHold, Rejoins, SaysSilent};
+ghost use Rattle.media_agents.specs.Asking.{Closes, IsHold, Opens, Rejoins, SaysSilent};
 ghost use Rattle.media_agents.specs.declared.slots.LogAt.{LogAt as At};
 ghost use Rattle.media_agents.specs.Finding.{log_at};
-ghost use Rattle.std.specs.Prelude.{◌≡◌, ◌≤◌, length, IfErr, IfSome};
+ghost use Rattle.std.specs.Prelude.{◌≡◌, ◌≤◌, length, IfSome};
 
+use crate::journal::Journal;
+use crate::unopened::{Unopened, open_image, open_publication};
 use driver_steps::OpenLog;
-use drop_tallies::Tallies;
 use log_slots::{LogSlot, Naming, Slot, lock_soon};
 use std::sync::{Mutex, Wait};
 use stream_registry::Source;
@@ -49,6 +50,20 @@ pub trait Logs<N: Naming> {
     fn is_silent<R: Wait>(&self, rt: &R, at: LogAt, now: u64, limit: u64) -> bool
         ensures { SaysSilent (held self.now at) at.source now limit result };
 
+    /// The log opens. It comes back where another log is open there, or none opens any more.
+    fn open<R: Wait>(
+        &self,
+        rt: &R,
+        at: LogAt,
+        log: OpenLog,
+        session: i32,
+        stream: i32,
+    ) -> Result<(), Unopened>
+        requires home { (place_held log.log).home ≡ N.home }
+        requires made { IsMadeFor session stream (made_held log.log) }
+        requires fresh { messages_held log.log ≡ 0 }
+        ensures { Opens (held self.now at) session stream log result };
+
     /// The log closes, if it is open: it is handed out.
     fn close<R: Wait>(&self, rt: &R, at: LogAt) -> Option<OpenLog>
         ensures closed { Closes (held self.now at) at.source result }
@@ -60,8 +75,8 @@ pub trait Logs<N: Naming> {
 pub struct Slots<N: Naming> {
     pub publications: Vec<Mutex<Slot<N>>>,
     pub images: Vec<Mutex<LogSlot<N>>>,
-    /// What the sender and the receiver dropped, lost or kept back. The lock is taken last, and for one row.
-    pub tallies: Mutex<Tallies>,
+    /// What the agents decided, dropped, lost or kept back. The lock is taken last, and for what came of one step.
+    pub journal: Mutex<Journal>,
 }
 
 /// Exactly these subscriptions read the log of that publication, if it is open here.
@@ -145,6 +160,28 @@ impl<N: Naming> Logs<N> for Slots<N> {
         }
     }
 
+    fn open<R: Wait>(
+        &self,
+        rt: &R,
+        at: LogAt,
+        log: OpenLog,
+        session: i32,
+        stream: i32,
+    ) -> Result<(), Unopened> {
+        let slot = at.slot as usize;
+        if at.published {
+            match self.publications.get(slot) {
+                Some(it) => open_publication(&mut *lock_soon(rt, it), log, session, stream),
+                None => Err(Unopened::no_publication(self, at, log)),
+            }
+        } else {
+            match self.images.get(slot) {
+                Some(it) => open_image(&mut *lock_soon(rt, it), log, session, stream),
+                None => Err(Unopened::no_image(self, at, log)),
+            }
+        }
+    }
+
     fn close<R: Wait>(&self, rt: &R, at: LogAt) -> Option<OpenLog> {
         let slot = at.slot as usize;
         if at.published {
@@ -156,36 +193,6 @@ impl<N: Naming> Logs<N> for Slots<N> {
             match self.images.get(slot) {
                 Some(it) => close_image(&mut *lock_soon(rt, it), at.source),
                 None => None,
-            }
-        }
-    }
-}
-
-impl<N: Naming> Slots<N> {
-    /// The log opens. It comes back where there is no such slot, or another log is open there.
-    pub fn open<R: Wait>(
-        &self,
-        rt: &R,
-        at: LogAt,
-        log: OpenLog,
-        session: i32,
-        stream: i32,
-    ) -> Result<(), OpenLog>
-        requires home { (place_held log.log).home ≡ N.home }
-        requires made { IsMadeFor session stream (made_held log.log) }
-        requires fresh { messages_held log.log ≡ 0 }
-        ensures { IfErr result (λ back. back ≡ log) }
-    {
-        let slot = at.slot as usize;
-        if at.published {
-            match self.publications.get(slot) {
-                Some(it) => lock_soon(rt, it).open(log, session, stream),
-                None => Err(log),
-            }
-        } else {
-            match self.images.get(slot) {
-                Some(it) => lock_soon(rt, it).open(log, session, stream),
-                None => Err(log),
             }
         }
     }

@@ -1,17 +1,16 @@
 //! What was dropped, lost or kept back is counted.
 
-ghost use Rattle.media_agents.specs.Tallying.{miss_by, miss_of, miss_of_set_up};
-ghost use Rattle.std.specs.Prelude.{◌≡◌};
+ghost use Rattle.channel_uri.specs.declared.address.Address.{Address as Whence};
+ghost use Rattle.drop_tallies.specs.Tallies.{Table};
+ghost use Rattle.media_agents.specs.Tallying.{after_answer, after_cut, after_event, after_outlet, after_report, is_asking, miss_by, miss_of, miss_of_set_up};
+ghost use Rattle.std.specs.Prelude.{◌≡◌, fold, MatchBool, ⊤};
 
-use crate::slots::Slots;
 use channel_uri::Address;
 use driver_core::{Astray, Event, Outlet, Response, SetupFault};
 use driver_steps::{Answer, Cause};
 use drop_tallies::{Miss, Tallies};
 use frame_codec::{Datagram, Packet};
-use log_slots::Naming;
 use policy_core::Verdict;
-use std::sync::Wait;
 
 /// As what a cause is counted, and by which verdict.
 fn miss_by(cause: &Cause) -> (Miss, Option<Verdict>)
@@ -55,27 +54,10 @@ fn miss_of_set_up(response: &Response) -> Option<(Miss, Option<Verdict>)>
     }
 }
 
-/// The destinations that a datagram may not go to are counted.
-fn note_outlets(tallies: &mut Tallies, outlets: &[Outlet]) {
-    for outlet in outlets {
-        if !outlet.decision.verdict.allow {
-            tallies.note(Miss::Withheld, Some(outlet.decision.verdict), &outlet.to);
-        }
-    }
-}
-
-/// Whether a datagram may not go to one of these.
-fn is_withheld(outlets: &[Outlet]) -> bool {
-    for outlet in outlets {
-        if !outlet.decision.verdict.allow {
-            return true;
-        }
-    }
-    false
-}
-
 /// Whether a NAK is due by the answer of the receiver's step.
-fn is_asking(answer: &Answer) -> bool {
+pub(crate) fn is_asking(answer: &Answer) -> bool
+    ensures { result ≡ is_asking answer.now }
+{
     let Answer::Reported { datagrams, .. } = answer else {
         return false;
     };
@@ -85,61 +67,72 @@ fn is_asking(answer: &Answer) -> bool {
     }
 }
 
-impl<N: Naming> Slots<N> {
-    /// A datagram from that address is none that the agent takes. It is counted where its bytes are no datagram.
-    pub(crate) fn note_unread<R: Wait>(&self, rt: &R, bytes: &[u8], from: &Address) {
-        if Datagram::read(bytes).is_err() {
-            self.tallies.lock(rt).note(Miss::Unread, None, from);
-        }
-    }
+/// Whether the answer of a datagram's step changes anything that is counted.
+pub(crate) fn is_counted(answer: &Answer) -> bool
+    ensures { MatchBool result ⊤ ((from : Whence) (table : Table) → after_answer from answer.now table ≡ table) }
+{
+    matches!(
+        answer,
+        Answer::Resent { .. } | Answer::Dropped(_) | Answer::NoMemory
+    )
+}
 
-    /// A datagram from that address came to its step, which was answered that. It is counted where it was dropped, and so are
-    /// the datagrams that go out again.
-    pub(crate) fn note_answer<R: Wait>(&self, rt: &R, answer: &Answer, from: &Address) {
-        if let Answer::Resent { datagrams, .. } = answer {
-            self.tallies.lock(rt).resend(datagrams.len() as u64);
-        }
-        if let Some((miss, verdict)) = miss_of(answer) {
-            self.tallies.lock(rt).note(miss, verdict, from);
-        }
+/// What is counted of the answer of a datagram's step.
+pub(crate) fn count_answer(tallies: &mut Tallies, answer: &Answer, from: &Address)
+    ensures { tallies.new ≡ after_answer from.now answer.now tallies.old }
+{
+    if let Answer::Resent { datagrams, .. } = answer {
+        tallies.resend(datagrams.len() as u64);
     }
-
-    /// A SETUP from that address does not go to the conductor.
-    pub(crate) fn note_lost<R: Wait>(&self, rt: &R, from: &Address) {
-        self.tallies.lock(rt).note(Miss::QueueFull, None, from);
+    if let Some((miss, verdict)) = miss_of(answer) {
+        tallies.note(miss, verdict, from);
     }
+}
 
-    /// The conductor took an event, which was answered that. It is counted where it is a SETUP that makes no image, and there is
-    /// none of its stream.
-    pub(crate) fn note_set_up<R: Wait>(&self, rt: &R, event: &Event, response: &Response) {
-        let Event::Setup { from, .. } = event else {
-            return;
-        };
-        if let Some((miss, verdict)) = miss_of_set_up(response) {
-            self.tallies.lock(rt).note(miss, verdict, from);
-        }
+/// What is counted of the answer of a receiver's step.
+pub(crate) fn count_report(tallies: &mut Tallies, answer: &Answer)
+    ensures { tallies.new ≡ after_report answer.now tallies.old }
+{
+    if is_asking(answer) {
+        tallies.ask();
     }
+}
 
-    /// A NAK came. Any other datagram is not counted.
-    pub(crate) fn note_nak<R: Wait>(&self, rt: &R, packet: &Packet<'_>) {
-        if let Packet::Nak(_) = packet {
-            self.tallies.lock(rt).hear();
-        }
+/// What is counted of one destination of a datagram.
+fn count_outlet(tallies: &mut Tallies, outlet: &Outlet)
+    ensures { tallies.new ≡ after_outlet tallies.old outlet.now }
+{
+    if !outlet.decision.verdict.allow {
+        tallies.note(Miss::Withheld, Some(outlet.decision.verdict), &outlet.to);
     }
+}
 
-    /// The receiver's step was answered that: a NAK is counted that is due, which is the first of the datagrams.
-    pub(crate) fn note_report<R: Wait>(&self, rt: &R, answer: &Answer) {
-        if is_asking(answer) {
-            self.tallies.lock(rt).ask();
-        }
+/// What is counted of all its destinations.
+fn count_outlets(tallies: &mut Tallies, outlets: &[Outlet])
+    ensures { tallies.new ≡ fold after_outlet tallies.old outlets.now }
+{
+    for outlet in outlets {
+        count_outlet(tallies, outlet);
     }
+}
 
-    /// The sender's step was answered that: each destination is counted that the datagram may not go to.
-    pub(crate) fn note_withheld<R: Wait>(&self, rt: &R, answer: &Answer) {
-        if let Answer::Sent { outlets, .. } = answer {
-            if is_withheld(outlets.as_slice()) {
-                note_outlets(&mut *self.tallies.lock(rt), outlets.as_slice());
-            }
-        }
+/// What is counted of the answer of a sender's step.
+pub(crate) fn count_cut(tallies: &mut Tallies, answer: &Answer)
+    ensures { tallies.new ≡ after_cut answer.now tallies.old }
+{
+    if let Answer::Sent { outlets, .. } = answer {
+        count_outlets(tallies, outlets.as_slice());
+    }
+}
+
+/// What is counted of an event that the conductor took.
+pub(crate) fn count_event(tallies: &mut Tallies, event: &Event, response: &Response)
+    ensures { tallies.new ≡ after_event event.now response.now tallies.old }
+{
+    let Event::Setup { from, .. } = event else {
+        return;
+    };
+    if let Some((miss, verdict)) = miss_of_set_up(response) {
+        tallies.note(miss, verdict, from);
     }
 }

@@ -2,23 +2,31 @@
 
 ghost use Rattle.driver_core.specs.Conduct.{state_after};
 ghost use Rattle.driver_core.specs.Soundness.{IsSound};
-ghost use Rattle.media_agents.specs.Answering.{Answers, IsAnswer};
-ghost use Rattle.media_agents.specs.Asking.{IsRowClosed};
+ghost use Rattle.driver_steps.specs.Opening.{memory_of};
+ghost use Rattle.log_slots.specs.Opening.{room_of};
+ghost use Rattle.media_agents.specs.Acts.{GoesOn, Writes};
+ghost use Rattle.media_agents.specs.Answering.{Answers, IsAnswer, question_in};
+ghost use Rattle.media_agents.specs.Asking.{AreSilent, IsRowClosed, Settles, closing};
+ghost use Rattle.media_agents.specs.Desks.{Reports, assigned_by};
+ghost use Rattle.media_agents.specs.Following.{ClosesEach, Follows, OpensNext, Undoes, coming};
+ghost use Rattle.media_agents.specs.Journals.{after_entry, stamp_of};
 ghost use Rattle.media_agents.specs.Mails.{PostsEach, TellsAll};
-ghost use Rattle.media_agents.specs.Turns.{events_in};
+ghost use Rattle.media_agents.specs.Works.{Declines, Does, Makes, Misses, events_made, known_of, with_entry};
 ghost use Rattle.published_registry.specs.Histories.{IsPlannedOn, registry_of};
-ghost use Rattle.std.specs.Prelude.{◌≡◌, ◌+◌, ◌<◌, ◌^◌, ◌++◌, ◌∷◌, [], length, All, IfOk, OnErr, OnOk};
+ghost use Rattle.std.specs.Prelude.{◌≡◌, ◌+◌, ◌<◌, ◌^◌, ◌++◌, ◌∷◌, [], length, All, IfOk, IfSome, MatchBool, OnErr, OnOk, Some};
 
-use crate::aftermath::Aftermath;
+use crate::aftermath::{Aftermath, Made};
 use crate::answering::Question;
-use crate::desk::Desk;
+use crate::desk::Desks;
 use crate::following::{close_live, follow, open_next};
+use crate::journal::Stamp;
 use crate::mail::ClientReply;
 use crate::naming::DriverNaming;
+use crate::noting::Noting;
 use crate::pairing::settle;
 use crate::planning::{Foreseen, Planned, foresee, plan_joined};
 use crate::rings::Rings;
-use crate::slots::{Logs, Slots};
+use crate::slots::Logs;
 use crate::turning::Conducts;
 use command_codec::Command;
 use driver_core::{Entry, Event, Message, Registry, Response};
@@ -27,40 +35,50 @@ use published_registry::{Publisher, Receipt};
 use rows::Rows;
 use std::alloc::{AllocError, Global};
 use std::marker::Model;
-use std::sync::{Arc, Mutex, Wait};
+use std::sync::{Arc, Wait};
 use stream_registry::{LogPlace, Pair};
 
 /// What the conductor works on.
-pub struct Works<N: DriverNaming> {
+pub struct Works<N: DriverNaming, L, D, T> {
     /// It is taken out for as long as an entry is committed.
     publisher: Option<Publisher>,
     rings: Rings<N>,
-    desk: Arc<Mutex<Desk<N>>>,
+    desk: Arc<D>,
     region: Region<N>,
-    slots: Arc<Slots<N>>,
+    logs: Arc<L>,
+    /// Where it notes what came of each entry.
+    notes: T,
     /// Room for the subscriptions that read one log.
     room: Rows<u64, 512>,
     alloc: Global,
 }
 
-impl<N: DriverNaming> Model for Works<N> {
+impl<N: DriverNaming, L, D, T> Model for Works<N, L, D, T> {
     ghost use Rattle.driver_core.specs.Soundness.{IsSound};
-    ghost use Rattle.published_registry.specs.Histories.{History, history_in, registry_of};
+    ghost use Rattle.media_agents.specs.Works.{WorksState};
+    ghost use Rattle.published_registry.specs.Histories.{history_in, registry_of};
     ghost use Rattle.std.specs.Prelude.{◌≡◌, IsSome};
 
-    ghost Value = { History };
+    ghost Value = { WorksState L D T };
 
-    ghost view = { λ works. history_in works.publisher };
+    ghost view = { λ works. record {
+      history = history_in works.publisher;
+      logs = works.logs.value;
+      desk = works.desk.value;
+      notes = works.notes;
+      region = works.region;
+      rings = works.rings;
+    } };
 
     ghost invariant = { λ works. IsSome works.publisher × ((history_in works.publisher).book ≡ N.book) × IsSound (registry_of (history_in works.publisher)) };
 }
 
 /// The entry comes into the history, its log opens, and then readers are shown the registry.
-fn publish<N: DriverNaming, R: Wait>(
+fn publish<N: DriverNaming, L: Logs<N>, R: Wait>(
     rt: &R,
     publisher: Publisher,
     region: &mut Region<N>,
-    slots: &Slots<N>,
+    logs: &L,
     room: &mut Rows<u64, 512>,
     entry: Entry,
     memory: LogMemory,
@@ -69,13 +87,14 @@ fn publish<N: DriverNaming, R: Wait>(
     requires room { length publisher.entries + 1 < 2 ^ 64 }
     requires planned { IsPlannedOn (registry_of publisher) entry }
     requires sound { IsSound (state_after (registry_of publisher) entry.event entry.inputs) }
-    ensures published { IfOk result.1 (λ receipt. result.0 ≡ record publisher { entries = publisher.entries ++ entry ∷ [] }) }
-    ensures receipt { IfOk result.1 (λ receipt. receipt ≡ record { book = result.0.book; entries = result.0.entries }) }
-    ensures err { OnErr result.1 (result.0 ≡ publisher) }
+    ensures published { OnOk result.1 (result.0 ≡ with_entry entry publisher) }
+    ensures receipt { IfOk result.1 (λ receipt. receipt ≡ known_of result.0) }
+    ensures opens { OnOk result.1 (OpensNext (L.held logs.now) N.home (registry_of result.0) (room_of memory) opens region.old region.new) }
+    ensures err { OnErr result.1 ((result.0 ≡ publisher) × (region.new ≡ region.old)) }
 {
     match publisher.begin(entry) {
         Ok(begun) => {
-            open_next(rt, region, slots, begun.newest(), room, memory, opens);
+            open_next(rt, region, logs, begun.newest(), room, memory, opens);
             let (publisher, receipt) = begun.show(rt);
             (publisher, Ok(receipt))
         }
@@ -94,6 +113,15 @@ fn deliver<N: DriverNaming>(rings: &mut Rings<N>, receipt: &Receipt, replies: &[
     }
 }
 
+/// A client that attached has that ring.
+fn assign<N: DriverNaming>(rings: &mut Rings<N>, ring: u16, response: Option<Response>)
+    ensures { rings.new ≡ assigned_by response ring rings.old }
+{
+    if let Some(Response::Attached(client)) = response {
+        rings.assign(ring, client);
+    }
+}
+
 /// The registry is shown to nobody any more, and then each log that it has closes.
 fn end_with<N: DriverNaming, L: Logs<N>, R: Wait>(
     rt: &R,
@@ -109,27 +137,29 @@ fn end_with<N: DriverNaming, L: Logs<N>, R: Wait>(
     registry
 }
 
-impl<N: DriverNaming> Works<N> {
+impl<N: DriverNaming, L: Logs<N> + Drop, D: Desks<N> + Drop, T: Noting + Drop> Works<N, L, D, T> {
     /// What a new driver's conductor works on.
     pub fn new(
         publisher: Publisher,
         rings: Rings<N>,
-        desk: Arc<Mutex<Desk<N>>>,
+        desk: Arc<D>,
         region: Region<N>,
-        slots: Arc<Slots<N>>,
+        logs: Arc<L>,
+        notes: T,
         room: Rows<u64, 512>,
         alloc: Global,
-    ) -> Works<N>
+    ) -> Works<N, L, D, T>
         requires ours { publisher.book ≡ N.book }
         requires sound { IsSound (registry_of publisher) }
-        ensures { result ≡ publisher }
+        ensures { result ≡ record { history = publisher; logs = logs.value; desk = desk.value; notes = notes; region = region; rings = rings } }
     {
         Works {
             publisher: Some(publisher),
             rings,
             desk,
             region,
-            slots,
+            logs,
+            notes,
             room,
             alloc,
         }
@@ -137,7 +167,7 @@ impl<N: DriverNaming> Works<N> {
 
     /// The publisher.
     fn publisher(&self) -> &Publisher
-        ensures { result.now ≡ self.now }
+        ensures { result.now ≡ self.now.history }
     {
         match &self.publisher {
             Some(publisher) => publisher,
@@ -147,16 +177,58 @@ impl<N: DriverNaming> Works<N> {
 
     /// How many entries there are.
     pub(crate) fn number(&self) -> u64
-        ensures { result ≡ length self.now.entries }
+        ensures { result ≡ length self.now.history.entries }
     {
         self.publisher().number()
+    }
+
+    /// The entry comes into the history, and its log is open before anybody is shown the registry.
+    ///
+    /// # Errors
+    /// Nothing is changed where the publisher finds no memory.
+    fn enter<R: Wait>(
+        &mut self,
+        rt: &R,
+        entry: Entry,
+        memory: LogMemory,
+        opens: Option<LogPlace>,
+    ) -> Result<Receipt, AllocError>
+        requires room { length self.old.history.entries + 1 < 2 ^ 64 }
+        requires planned { IsPlannedOn (registry_of self.old.history) entry }
+        requires sound { IsSound (state_after (registry_of self.old.history) entry.event entry.inputs) }
+        ensures done { OnOk result (self.new ≡ record self.old { history = with_entry entry self.old.history; region = self.new.region }) }
+        ensures receipt { IfOk result (λ receipt. receipt ≡ known_of self.new.history) }
+        ensures opens { OnOk result (OpensNext (L.held self.old.logs) N.home (registry_of self.new.history) (room_of memory) opens self.old.region self.new.region) }
+        ensures err { OnErr result (self.new ≡ self.old) }
+    {
+        let Some(publisher) = self.publisher.take() else {
+            unreachable!()
+        };
+        let (publisher, published) = publish(
+            rt,
+            publisher,
+            &mut self.region,
+            &*self.logs,
+            &mut self.room,
+            entry,
+            memory,
+            opens,
+        );
+        if let Some(older) = self.publisher.replace(publisher) {
+            drop(older.end(rt));
+        }
+        let receipt = published?;
+        Ok(receipt)
     }
 
     /// Once an entry is shown, the logs follow, and its replies go out.
     fn finish<R: Wait>(&mut self, rt: &R, receipt: &Receipt, aftermath: &Aftermath)
         requires ours { receipt.now.book ≡ N.book }
         requires held { TellsAll receipt.now.entries aftermath.now.replies }
-        ensures { self.new ≡ self.old }
+        ensures gone { All (Settles (L.held self.old.logs) (registry_of self.old.history)) aftermath.now.gone }
+        ensures closes { ClosesEach (L.held self.old.logs) aftermath.now.closes self.old.region self.new.region }
+        ensures mails { PostsEach receipt.now aftermath.now.replies self.old.rings self.new.rings }
+        ensures same { self.new ≡ record self.old { region = self.new.region; rings = self.new.rings } }
     {
         let Some(publisher) = &self.publisher else {
             unreachable!()
@@ -164,7 +236,7 @@ impl<N: DriverNaming> Works<N> {
         follow(
             rt,
             &mut self.region,
-            &*self.slots,
+            &*self.logs,
             publisher.newest(),
             &mut self.room,
             aftermath,
@@ -177,54 +249,58 @@ impl<N: DriverNaming> Works<N> {
     ///
     /// # Errors
     /// Nothing is changed where the publisher finds no memory.
-    fn commit<R: Wait>(&mut self, rt: &R, ready: Planned) -> Result<(Response, Receipt), AllocError>
-        requires room { length self.old.entries + 1 < 2 ^ 64 }
-        requires planned { IsPlannedOn (registry_of self.old) ready.entry }
-        requires sound { IsSound (state_after (registry_of self.old) ready.entry.event ready.entry.inputs) }
+    fn commit<R: Wait>(&mut self, rt: &R, ready: Planned) -> Result<Made, AllocError>
+        requires room { length self.old.history.entries + 1 < 2 ^ 64 }
+        requires planned { IsPlannedOn (registry_of self.old.history) ready.entry }
+        requires sound { IsSound (state_after (registry_of self.old.history) ready.entry.event ready.entry.inputs) }
+        requires memory { room_of ready.memory ≡ memory_of ready.entry.event }
         requires response { ready.aftermath.response ≡ ready.entry.outcome.response }
+        requires opens { ready.aftermath.opens ≡ ready.entry.outcome.opens }
+        requires closes { ready.aftermath.closes ≡ closing (registry_of self.old.history) ready.entry.outcome.closes }
+        requires gone { ready.aftermath.gone ≡ ready.entry.outcome.gone }
         requires replies { ready.aftermath.replies ≡ ready.entry.outcome.replies }
-        ensures done { IfOk result (λ answered. self.new ≡ record self.old { entries = self.old.entries ++ ready.entry ∷ [] }) }
-        ensures response { IfOk result (λ answered. answered.0 ≡ ready.entry.outcome.response) }
-        ensures receipt { IfOk result (λ answered. answered.1 ≡ record { book = self.new.book; entries = self.new.entries }) }
+        requires decisions { ready.aftermath.decisions ≡ ready.entry.outcome.decisions }
+        ensures done { OnOk result (self.new ≡ record self.old { history = with_entry ready.entry self.old.history; region = self.new.region; rings = self.new.rings }) }
+        ensures response { IfOk result (λ made. ready.entry.outcome.response ≡ made.response) }
+        ensures decisions { IfOk result (λ made. ready.entry.outcome.decisions ≡ made.decisions) }
+        ensures receipt { IfOk result (λ made. made.receipt ≡ known_of self.new.history) }
+        ensures ours { IfOk result (λ made. made.receipt.book ≡ N.book) }
+        ensures follows { OnOk result (Follows (L.held self.old.logs) N.home (registry_of self.old.history) (registry_of self.new.history) ready.entry self.old.region self.new.region) }
+        ensures mails { IfOk result (λ made. PostsEach made.receipt ready.entry.outcome.replies self.old.rings self.new.rings) }
         ensures err { OnErr result (self.new ≡ self.old) }
     {
+        let _ = &self.publisher;
         let Planned {
             entry,
             memory,
             aftermath,
         } = ready;
-        let Some(publisher) = self.publisher.take() else {
-            unreachable!()
-        };
-        let (publisher, published) = publish(
-            rt,
-            publisher,
-            &mut self.region,
-            &self.slots,
-            &mut self.room,
-            entry,
-            memory,
-            aftermath.opens,
-        );
-        if let Some(older) = self.publisher.replace(publisher) {
-            drop(older.end(rt));
-        }
-        let receipt = published?;
+        let receipt = self.enter(rt, entry, memory, aftermath.opens)?;
         self.finish(rt, &receipt, &aftermath);
-        Ok((aftermath.response, receipt))
+        let Aftermath {
+            response,
+            decisions,
+            ..
+        } = aftermath;
+        Ok(Made {
+            response,
+            decisions,
+            receipt,
+        })
     }
 
     /// The event is planned, with the pairs that come joined to their logs, and committed.
-    fn take_foreseen<R: Wait>(
+    fn take_joined<R: Wait>(
         &mut self,
         rt: &R,
         event: &Event,
         foreseen: &Foreseen,
-    ) -> Result<(Response, Receipt), AllocError>
-        requires room { length self.old.entries + 1 < 2 ^ 64 }
-        ensures done { OnOk result (events_in self.new.entries ≡ events_in self.old.entries ++ event.now ∷ []) }
-        ensures answer { IfOk result (λ answered. Answers event.now answered.0 answered.1.entries) }
-        ensures ours { IfOk result (λ answered. answered.1.book ≡ N.book) }
+    ) -> Result<Made, AllocError>
+        requires room { length self.old.history.entries + 1 < 2 ^ 64 }
+        requires silent { AreSilent (L.held self.old.logs) (registry_of self.old.history) event.now foreseen.now.silent }
+        requires come { foreseen.now.come ≡ coming (registry_of self.old.history) event.now foreseen.now.silent }
+        ensures makes { IfOk result (λ made. Makes L.held D.held N.home event.now self.old self.new made.response made.decisions made.receipt) }
+        ensures ours { IfOk result (λ made. made.receipt.book ≡ N.book) }
         ensures err { OnErr result (self.new ≡ self.old) }
     {
         let Some(publisher) = &self.publisher else {
@@ -233,7 +309,7 @@ impl<N: DriverNaming> Works<N> {
         let ready = plan_joined(
             rt,
             self.alloc,
-            &*self.slots,
+            &*self.logs,
             publisher.newest(),
             &mut self.room,
             event,
@@ -244,123 +320,176 @@ impl<N: DriverNaming> Works<N> {
 
     /// The logs of these pairs are read as the newest registry says.
     fn settle_pairs<R: Wait>(&mut self, rt: &R, pairs: &[Pair])
-        ensures { self.new ≡ self.old }
+        ensures settled { All (Settles (L.held self.old.logs) (registry_of self.old.history)) pairs.now }
+        ensures same { self.new ≡ self.old }
     {
         let Some(publisher) = &self.publisher else {
             unreachable!()
         };
-        settle(rt, &*self.slots, publisher.newest(), &mut self.room, pairs);
+        settle(rt, &*self.logs, publisher.newest(), &mut self.room, pairs);
     }
 
-    /// The conductor takes an event, and the logs follow.
-    ///
-    /// # Errors
-    /// Nothing is changed where there is no memory.
-    fn take<R: Wait>(&mut self, rt: &R, event: &Event) -> Result<(Response, Receipt), AllocError>
-        requires room { length self.old.entries + 1 < 2 ^ 64 }
-        ensures done { OnOk result (events_in self.new.entries ≡ events_in self.old.entries ++ event.now ∷ []) }
-        ensures answer { IfOk result (λ answered. Answers event.now answered.0 answered.1.entries) }
-        ensures ours { IfOk result (λ answered. answered.1.book ≡ N.book) }
+    /// The same. Where no entry is made, the logs that were joined for it are read as before.
+    fn take_foreseen<R: Wait>(
+        &mut self,
+        rt: &R,
+        event: &Event,
+        foreseen: &Foreseen,
+    ) -> Result<Made, AllocError>
+        requires room { length self.old.history.entries + 1 < 2 ^ 64 }
+        requires silent { AreSilent (L.held self.old.logs) (registry_of self.old.history) event.now foreseen.now.silent }
+        requires come { foreseen.now.come ≡ coming (registry_of self.old.history) event.now foreseen.now.silent }
+        ensures makes { IfOk result (λ made. Makes L.held D.held N.home event.now self.old self.new made.response made.decisions made.receipt) }
+        ensures ours { IfOk result (λ made. made.receipt.book ≡ N.book) }
+        ensures undone { OnErr result (All (Settles (L.held self.old.logs) (registry_of self.old.history)) foreseen.now.come) }
         ensures err { OnErr result (self.new ≡ self.old) }
     {
-        let foreseen = foresee(
-            rt,
-            self.alloc,
-            &*self.slots,
-            self.publisher().newest(),
-            event,
-        )?;
-        let taken = self.take_foreseen(rt, event, &foreseen);
+        let taken = self.take_joined(rt, event, foreseen);
         if taken.is_err() {
             self.settle_pairs(rt, foreseen.come.as_slice());
         }
         taken
     }
 
-    /// A client that attached gets its ring, and the owner of the driver the answer.
+    /// The conductor takes an event, and the logs follow.
+    ///
+    /// # Errors
+    /// Nothing is changed where there is no memory.
+    fn take<R: Wait>(&mut self, rt: &R, event: &Event) -> Result<Made, AllocError>
+        requires room { length self.old.history.entries + 1 < 2 ^ 64 }
+        ensures makes { IfOk result (λ made. Makes L.held D.held N.home event.now self.old self.new made.response made.decisions made.receipt) }
+        ensures ours { IfOk result (λ made. made.receipt.book ≡ N.book) }
+        ensures undone { OnErr result (Undoes (L.held self.old.logs) (registry_of self.old.history) event.now) }
+        ensures err { OnErr result (self.new ≡ self.old) }
+    {
+        let foreseen = foresee(
+            rt,
+            self.alloc,
+            &*self.logs,
+            self.publisher().newest(),
+            event,
+        )?;
+        self.take_foreseen(rt, event, &foreseen)
+    }
+
+    /// The desk is told the answer to a question, if there is one, and a client that attached gets its ring.
     fn report<R: Wait>(
         &mut self,
         rt: &R,
-        question: Question,
+        question: Option<Question>,
         response: Option<Response>,
         receipt: Receipt,
     )
         requires ours { receipt.book ≡ N.book }
-        requires answer { IsAnswer question response receipt }
-        ensures { self.new ≡ self.old }
+        requires answer { IfSome question (λ question. IsAnswer question response receipt) }
+        ensures reports { Reports (D.held self.old.desk) question response receipt self.old.rings self.new.rings }
+        ensures same { self.new ≡ record self.old { rings = self.new.rings } }
     {
-        let mut desk = self.desk.lock(rt);
-        if let Some(Response::Attached(client)) = response {
-            self.rings.assign(desk.ring(), client);
+        if let Some(question) = question {
+            let ring = self.desk.answer(rt, question, response, receipt);
+            assign(&mut self.rings, ring, response);
         }
-        desk.answer(question, response, receipt);
     }
 
     /// What is answered to an event for which there was no memory: the client gets a reply that no entry holds, with the
     /// receipt of the newest one.
     fn refuse<R: Wait>(&mut self, rt: &R, event: &Event)
-        ensures { self.new ≡ self.old }
+        ensures declines { Declines (D.held self.old.desk) event.now (known_of self.old.history) self.old.rings self.new.rings }
+        ensures same { self.new ≡ record self.old { rings = self.new.rings } }
     {
         let receipt = self.publisher().receipt();
-        if let Event::Command { client, bytes, .. } = event {
-            let correlation = Command::correlation_of(bytes.as_slice());
-            self.rings
-                .post(&receipt, *client, ClientReply::NoMemory { correlation });
-        } else if let Some(question) = Question::of(event) {
-            self.report(rt, question, None, receipt);
+        match event {
+            Event::Command { client, bytes, .. } => {
+                let correlation = Command::correlation_of(bytes.as_slice());
+                self.rings
+                    .post(&receipt, *client, ClientReply::NoMemory { correlation });
+            }
+            _ => self.report(rt, Question::of(event), None, receipt),
         }
     }
 
-    /// A SETUP that makes no image is counted. An event that is a question is answered with the response of its entry, once that is shown. Its replies went out before.
-    fn answer<R: Wait>(&mut self, rt: &R, event: &Event, response: Response, receipt: Receipt)
-        requires ours { receipt.book ≡ N.book }
-        requires answer { Answers event.now response receipt.entries }
-        ensures { self.new ≡ self.old }
+    /// By which registry the last entry is: the one after it.
+    fn stamp(&self) -> Stamp
+        ensures { result ≡ stamp_of self.now.history }
     {
-        self.slots.note_set_up(rt, event, &response);
-        if let Some(question) = Question::of(event) {
-            self.report(rt, question, Some(response), receipt);
+        Stamp {
+            registry: self.number(),
+            moment: self.publisher().newest().moment(),
+        }
+    }
+
+    /// What came of an entry is noted once: what was decided on it, and a SETUP that makes no image. An event that is a question is
+    /// answered with the response of its entry, once that is shown. Its replies went out before.
+    fn answer<R: Wait>(&mut self, rt: &R, event: &Event, made: Made)
+        requires ours { made.receipt.book ≡ N.book }
+        requires answer { Answers event.now made.response made.receipt.entries }
+        ensures notes { GoesOn (Writes (after_entry event.now made.response made.decisions (stamp_of self.old.history))) (T.wrote self.old.notes) (T.wrote self.new.notes) }
+        ensures reports { Reports (D.held self.old.desk) (question_in event.now) (Some made.response) made.receipt self.old.rings self.new.rings }
+        ensures same { self.new ≡ record self.old { notes = self.new.notes; rings = self.new.rings } }
+    {
+        let stamp = self.stamp();
+        self.notes.note_entry(rt, event, &made.response, made.decisions.as_slice(), stamp);
+        let Made {
+            response,
+            decisions: _,
+            receipt,
+        } = made;
+        self.report(rt, Question::of(event), Some(response), receipt);
+    }
+
+    /// An entry is made of the event, and all that follows it is done; or it is refused.
+    fn serve<R: Wait>(&mut self, rt: &R, event: &Event) -> bool
+        requires room { length self.old.history.entries + 1 < 2 ^ 64 }
+        ensures { MatchBool result (Does L.held D.held N.home T.wrote self.old event.now self.new) (Misses L.held D.held N.home self.old event.now self.new) }
+    {
+        match self.take(rt, event) {
+            Ok(made) => {
+                self.answer(rt, event, made);
+                true
+            }
+            Err(_) => {
+                self.refuse(rt, event);
+                false
+            }
         }
     }
 
     /// Ends the driver and gives its last registry: nobody gets a look at it any more, and each of its logs closes. It waits
     /// until each look has ended.
     pub fn end<R: Wait>(self, rt: &R) -> Registry
-        ensures { result ≡ registry_of self }
+        ensures registry { result ≡ registry_of self.history }
+        ensures closed { All (IsRowClosed (L.held self.logs)) result.streams.sources }
     {
         let Works {
             publisher,
             rings: _,
             desk: _,
             mut region,
-            slots,
+            logs,
+            notes: _,
             room: _,
             alloc: _,
         } = self;
         match publisher {
-            Some(publisher) => end_with(rt, publisher, &mut region, &*slots),
+            Some(publisher) => end_with(rt, publisher, &mut region, &*logs),
             None => unreachable!(),
         }
     }
 }
 
-impl<N: DriverNaming> Conducts<Event> for Works<N> {
-    ghost history = { λ works. events_in works.entries };
+impl<N: DriverNaming, L: Logs<N> + Drop, D: Desks<N> + Drop, T: Noting + Drop> Conducts<Event>
+    for Works<N, L, D, T> {
+    ghost history = { events_made };
+
+    ghost does = { λ old event new. Does L.held D.held N.home T.wrote old event new };
+
+    ghost misses = { λ old event new. Misses L.held D.held N.home old event new };
 
     fn is_full(&self) -> bool {
         self.number() == u64::MAX
     }
 
     fn conduct<R: Wait>(&mut self, rt: &R, event: Event) -> bool {
-        match self.take(rt, &event) {
-            Ok((response, receipt)) => {
-                self.answer(rt, &event, response, receipt);
-                true
-            }
-            Err(_) => {
-                self.refuse(rt, &event);
-                false
-            }
-        }
+        self.serve(rt, &event)
     }
 }

@@ -1,6 +1,6 @@
-use Rattle.std.proofs.Common.{All, take}
-use Rattle.media_agents.specs.Asking.{IsClosed}
+use Rattle.std.proofs.Common.{take}
+use Rattle.media_agents.specs.Following.{ClosesEach}
 use Rattle.media_agents.proofs.following.close_all.Given as goal
 
 abbrev pub invariant-loop-at : goal.invariant-loop-at
-invariant-loop-at g l = All (IsClosed (g.L.Logs.held l.logs)) (take l.at-index l.closes)
+invariant-loop-at g l = ClosesEach (g.L.Logs.held l.logs) (take l.at-index l.closes) l.fn.region l.region

@@ -1,10 +1,11 @@
 use Rattle.std.proofs.Common.{take}
-use Rattle.media_agents.specs.Traffic.{GoesOn, SentEach}
+use Rattle.media_agents.specs.Acts.{GoesOn, Trail}
+use Rattle.media_agents.specs.Traffic.{Chain, ReportsOne}
 use Rattle.published_registry.specs.Histories.{IsContinuedBy}
 use Rattle.media_agents.proofs.receiving.report_each.Given as goal
 
 abbrev pub invariant-loop-image : goal.invariant-loop-image
 invariant-loop-image g l = record {
   known : IsContinuedBy l.fn.pass l.pass;
-  wire : GoesOn (SentEach (take l.image-index l.images)) (g.W.Wire.went l.fn.wire) (g.W.Wire.went l.wire);
+  reports : GoesOn (Chain (ReportsOne l.now) (take l.image-index l.images) l.fn.pass l.pass) (Trail (g.S.Stepping.did l.fn.steps) (g.W.Wire.went l.fn.wire)) (Trail (g.S.Stepping.did l.steps) (g.W.Wire.went l.wire));
 }

@@ -1,9 +1,10 @@
-use Rattle.media_agents.specs.Traffic.{AreSentFrom, GoesOn}
+use Rattle.media_agents.specs.Acts.{GoesOn, Trail}
+use Rattle.media_agents.proofs.RunLemmas.{Ran}
 use Rattle.published_registry.specs.Histories.{IsContinuedBy}
 use Rattle.media_agents.proofs.sending.send_run.Given as goal
 
 abbrev pub invariant-loop-count : goal.invariant-loop-count
 invariant-loop-count g l = record {
   known : IsContinuedBy l.fn.pass l.pass;
-  wire : GoesOn (AreSentFrom l.local) (g.W.Wire.went l.fn.wire) (g.W.Wire.went l.wire);
+  sends : GoesOn (Ran l.now l.local l.at l.count l.fn.pass l.pass) (Trail (g.S.Stepping.did l.fn.steps) (g.W.Wire.went l.fn.wire)) (Trail (g.S.Stepping.did l.steps) (g.W.Wire.went l.wire));
 }

@@ -1,51 +1,56 @@
-use Rattle.std.proofs.Common.{◌≡◌, ◌⊎◌, List, [], ap, subst, sym, ◌∙◌}
+use Rattle.std.proofs.Common.{◌≡◌, List, ap, subst, sym, ◌∙◌}
 use Rattle.channel_uri.specs.declared.address.Address.{Address}
-use Rattle.media_agents.proofs.LookLemmas.{continues, stays_known}
+use Rattle.media_agents.proofs.AgentLemmas.{turn_receives}
 use Rattle.media_agents.proofs.SetUpLemmas.{few_in_turn}
-use Rattle.media_agents.proofs.TrafficLemmas.{turn_ends, turn_receives}
-use Rattle.media_agents.specs.Agents.{Receiving}
+use Rattle.media_agents.proofs.ActLemmas.{turn_ends}
+use Rattle.media_agents.specs.Acts.{GoesOn, Trail}
+use Rattle.media_agents.specs.Agents.{Lists, Receives, Receiving, fresh_set_ups}
 use Rattle.media_agents.specs.declared.listing.ImageAt.{ImageAt}
-use Rattle.media_agents.specs.Eliciting.{Eliciting, Elicits}
+use Rattle.media_agents.specs.Eliciting.{Eliciting}
 use Rattle.media_agents.specs.Finding.{AreEndpoints, images_of}
-use Rattle.media_agents.specs.Traffic.{Receives}
+use Rattle.media_agents.specs.SetUps.{SettingUp}
 use Rattle.media_agents.proofs.receiving.ReceiverAgent.turn.Goals as goal
-use Rattle.media_wire.specs.declared.letter.Letter.{Letter}
-use Rattle.published_registry.specs.Histories.{History, IsContinuedBy, history_in, registry_of}
+use Rattle.published_registry.specs.Histories.{History, history_in}
 
 pub returns-clause-queue : goal.returns-clause-queue
 returns-clause-queue g c =
     few_in_turn c.max-moment.result c.self.inside.set_ups c.begin.new.self c.hear_each-pass.new.set_ups c.args.self.now.queue c.begin.ensures
-    (ap (λ (agent : Receiving). agent.queue) c.self.view_is) c.hear_each-pass.ensures.set_ups
+    (ap (λ (agent : Receiving g.row.S.Denot). agent.queue) c.self.view_is) c.hear_each-pass.ensures.set_ups
 
-pub returns-clause-wire : goal.returns-clause-wire
-returns-clause-wire g c =
+pub returns-clause-receives : goal.returns-clause-receives
+returns-clause-receives g c =
+    let did = g.S.Stepping.did in
     let went = g.W.Wire.went in
+    let now = c.max-moment.result in
+    let after : History = c.elicit-pass.result in
+    let set_ups : SettingUp = c.hear_each-pass.new.set_ups in
     let there = sym c.take.ensures.value ∙ c.in-Some.is in
-    let same : c.in-Some.pass ≡ c.args.self.now.known = sym (ap history_in there) ∙ ap (λ (agent : Receiving). agent.known) c.self.view_is in
-    let look : History = c.find_endpoints-pass.result in
-    let second : History = c.find_images-pass.result in
-    let third : History = c.elicit-pass.result in
-    let endpoints : List Address = c.as_slice-endpoints.result.now in
-    let images : List ImageAt = c.as_slice-images.result.now in
-    let asked = c.elicit-pass.ensures.wire in
-    let letters : List Letter = asked.0 in
+    let is = ap (λ (agent : Receiving g.row.S.Denot). agent.steps) c.self.view_is in
+    let is_known : c.in-Some.pass ≡ c.args.self.now.known = sym (ap history_in there) ∙ ap (λ (agent : Receiving g.row.S.Denot). agent.known) c.self.view_is in
+    let is_queue : c.begin.new.self ≡ fresh_set_ups c.args.self.now.queue =
+    c.begin.ensures ∙ ap fresh_set_ups (ap (λ (agent : Receiving g.row.S.Denot). agent.queue) c.self.view_is) in
+    let is_eliciting = ap (λ (agent : Receiving g.row.S.Denot). agent.eliciting) c.self.view_is in
+    let begun = Trail (did c.self.inside.steps) (went c.args.wire.now) in
+    let end = Trail (did c.elicit-pass.new.steps) (went c.turn_ended.new.self) in
+    let Goes = λ (steps : g.row.S.Denot) (known : History) (queue : SettingUp) (was : Eliciting).
+    GoesOn (Receives now known after queue set_ups was c.elicit-pass.new.elicited) (Trail (did steps) (went c.args.wire.now)) end in
+    let by_parts = turn_receives now c.in-Some.pass c.find_endpoints-pass.result c.hear_each-pass.result.0 c.find_images-pass.result
+    c.report_each-pass.result.0 after c.begin.new.self set_ups c.self.inside.elicited c.elicit-pass.new.elicited c.as_slice-endpoints.result.now c.as_slice-images.result.now
+    (did c.self.inside.steps) (did c.find_endpoints-pass.new.steps) (did c.hear_each-pass.new.steps) (did c.find_images-pass.new.steps)
+    (went c.args.wire.now) (went c.hear_each-pass.new.wire) (Trail (did c.report_each-pass.new.steps) (went c.report_each-pass.new.wire))
+    (Trail (did c.elicit-pass.new.steps) (went c.elicit-pass.new.wire))
+    (subst (λ (listed : List Address). GoesOn (Lists AreEndpoints c.in-Some.pass c.find_endpoints-pass.result listed) (did c.self.inside.steps) (did c.find_endpoints-pass.new.steps))
+    (sym c.as_slice-endpoints.ensures.value) c.find_endpoints-pass.ensures.listed)
+    c.hear_each-pass.ensures.hears
+    (subst (λ (listed : List ImageAt). GoesOn (Lists (λ s images. images ≡ images_of s) c.hear_each-pass.result.0 c.find_images-pass.result listed) (did c.hear_each-pass.new.steps) (did c.find_images-pass.new.steps))
+    (sym c.as_slice-images.ensures.value) c.find_images-pass.ensures.listed)
+    c.report_each-pass.ensures.reports c.elicit-pass.ensures.wire in
+    let ended = turn_ends (Receives now c.in-Some.pass after c.begin.new.self set_ups c.self.inside.elicited c.elicit-pass.new.elicited)
+    begun (did c.elicit-pass.new.steps) (went c.elicit-pass.new.wire) (went c.turn_ended.new.self) by_parts c.turn_ended.ensures in
     record {
-      look = look;
-      later = subst (λ (known : History). IsContinuedBy known look) same c.find_endpoints-pass.ensures.known;
-      endpoints = endpoints;
-      named = subst (λ (all : List Address). AreEndpoints (registry_of look) all ⊎ (all ≡ [])) (sym c.as_slice-endpoints.ensures.value) c.find_endpoints-pass.ensures.listed;
-      second = second;
-      next = continues c.hear_each-pass.ensures.known c.find_images-pass.ensures.known;
-      images = images;
-      listed = subst (λ (all : List ImageAt). (all ≡ images_of (registry_of second)) ⊎ (all ≡ [])) (sym c.as_slice-images.ensures.value) c.find_images-pass.ensures.listed;
-      third = third;
-      last = continues c.report_each-pass.ensures.known c.elicit-pass.ensures.known;
-      letters = letters;
-      elicits = subst (λ (old : Eliciting). Elicits c.max-moment.result third old c.elicit-pass.new.elicited letters)
-          (ap (λ (agent : Receiving). agent.eliciting) c.self.view_is) asked.1;
-      earlier = stays_known third;
-      wire = turn_ends (Receives endpoints images letters) (went c.args.wire.now) (went c.elicit-pass.new.wire) (went c.turn_ended.new.self)
-          (turn_receives endpoints images letters (went c.args.wire.now) (went c.hear_each-pass.new.wire) (went c.report_each-pass.new.wire) (went c.elicit-pass.new.wire)
-          c.hear_each-pass.ensures.wire c.report_each-pass.ensures.wire asked.2)
-          c.turn_ended.ensures;
+      left = set_ups.left;
+      receives = subst (λ (steps : g.row.S.Denot). Goes steps c.args.self.now.known (fresh_set_ups c.args.self.now.queue) c.args.self.now.eliciting) is
+          (subst (λ (known : History). Goes c.self.inside.steps known (fresh_set_ups c.args.self.now.queue) c.args.self.now.eliciting) is_known
+          (subst (λ (queue : SettingUp). Goes c.self.inside.steps c.in-Some.pass queue c.args.self.now.eliciting) is_queue
+          (subst (λ (was : Eliciting). Goes c.self.inside.steps c.in-Some.pass c.begin.new.self was) is_eliciting ended)));
     }
