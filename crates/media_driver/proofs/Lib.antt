@@ -1,4 +1,5 @@
 pub mod AttachLemmas
+pub mod AuditLemmas
 pub mod MailLemmas
 pub mod OfferLemmas
 pub mod OpeningLemmas

@@ -1,5 +1,5 @@
 -- What a client takes out of its ring, mail by mail.
-use Rattle.std.proofs.Common.{◌≡◌, ◌≢◌, ◌+◌, ℕ, Option, Some, None, List, [], ◌∷◌, ◌++◌, append_assoc, arith, ap, subst, sym, ◌∙◌, refl, length, inl, inr}
+use Rattle.std.proofs.Common.{◌≡◌, ◌≢◌, ◌+◌, ℕ, Some, None, List, [], ◌∷◌, ◌++◌, append_assoc, arith, ap, subst, sym, ◌∙◌, refl, length, inl, inr}
 use Rattle.std.proofs.lemmas.List.{append-nil, length-append}
 use Rattle.std.proofs.lemmas.List.Elements.{All-nil, All-push}
 use Rattle.media_agents.specs.Mails.{Posted}

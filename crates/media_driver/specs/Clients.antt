@@ -1,6 +1,8 @@
 -- What a client is to its owner, and what its calls change of it. Own rules.
 use Rattle.std.specs.Prelude.{◌≡◌, ◌≢◌, ℕ, Bool, ◌+◌, ◌-◌, ◌^◌, ◌≤◌, ◌⊎◌, min, All, length, List, [], ◌∷◌, ◌++◌, Option, Some, None, Result, Ok, Err}
 use mathlib.Core.List.{IsPrefix}
+use Rattle.audit_ring.specs.Audit.{KeptOf}
+use Rattle.media_agents.specs.declared.journal.Dated.{Dated}
 use Rattle.command_codec.specs.Command.{command_bytes}
 use Rattle.command_codec.specs.declared.command.Body.{Body}
 use Rattle.command_queue.specs.declared.known.Facts.{Facts}
@@ -17,7 +19,8 @@ use Rattle.published_registry.specs.Histories.{History, IsContinuedBy, Known}
 
 -- the id by which the driver knows it; the correlation id of its last command; the greatest moment of its commands and offers;
 -- the history that it saw or learned of; what it pushed; the mails that it took out of its ring, and those that it saw there;
--- how many of its messages were counted, and whether the driver's total was at its greatest value when one was not
+-- how many of its messages were counted, and whether the driver's total was at its greatest value when one was not; and what is
+-- kept of what was decided for it
 pub record Attached : Type 0 where
   pub number : ℕ
   pub correlation : ℕ
@@ -28,6 +31,7 @@ pub record Attached : Type 0 where
   pub waiting : List Posted
   pub counted : ℕ
   pub ended : Bool
+  pub audited : KeptOf Dated
 
 -- what a client has of a driver: the history that its pass saw or learned of, and what was pushed by it
 pub record Seated : Type 0 where
@@ -88,7 +92,12 @@ pub record Looks (old new : Attached) : Type 0 where
   pub known : IsContinuedBy old.known new.known
   pub new_is : new ≡ record old { known = new.known }
 
--- and it knows what the receipt names
+-- it does so, and what is decided by the look is kept
+pub record Consults (old new : Attached) : Type 0 where
+  pub known : IsContinuedBy old.known new.known
+  pub new_is : new ≡ record old { known = new.known; audited = new.audited }
+
+-- it looks, and it knows what the receipt names
 pub record Learns (receipt : Known) (old new : Attached) : Type 0 where
   pub looks : Looks old new
   pub learned : IsPrefix receipt.entries new.known.entries

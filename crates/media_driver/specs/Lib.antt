@@ -1,4 +1,5 @@
 pub mod Attaching
+pub mod Audits
 pub mod Clients
 pub mod Clocks
 pub mod Faults

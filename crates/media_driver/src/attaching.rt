@@ -1,9 +1,10 @@
 //! Clients come, and are taken back.
 
+ghost use Rattle.audit_ring.specs.Audit.{kept_of};
 ghost use Rattle.media_driver.specs.Attaching.{AttachFails, Attaches};
 ghost use Rattle.media_driver.specs.declared.faults.AttachFault.TheVariants.{Full as IsFull};
 ghost use mathlib.Core.List.{IsPrefix};
-ghost use Rattle.std.specs.Prelude.{◌≡◌, ◌+◌, ◌-◌, ◌≤◌, ◌<◌, false, IfErr, IfOk, IsErrOf};
+ghost use Rattle.std.specs.Prelude.{◌≡◌, ◌+◌, ◌-◌, ◌≤◌, ◌<◌, [], false, IfErr, IfOk, IsErrOf};
 
 use crate::asking::ask;
 use crate::client::Client;
@@ -11,26 +12,32 @@ use crate::driver::Driver;
 use crate::faults::AttachFault;
 use crate::seat::Seat;
 use crate::seats::FreeSeat;
+use audit_ring::AuditOf;
 use driver_core::{Event, Response};
 use log_slots::Totals;
-use media_agents::{Clock, DriverNaming, Question, Slots};
+use media_agents::{Clock, Dated, DriverNaming, Question, Slots};
 use published_registry::Receipt;
 use std::alloc::AllocError;
 use std::sync::{Arc, Mutex, Wait};
 use std::thread::Threads;
 
-/// What a client shares with its driver.
+/// What a client shares with its driver, and the memory for its audit.
 #[derive(Drop)]
 struct Handles<N: DriverNaming> {
     slots: Arc<Slots<N>>,
     totals: Arc<Mutex<Totals<N>>>,
+    /// Where nothing was decided yet.
+    audit: AuditOf<Dated>,
 }
 
 impl<N: DriverNaming, R: Threads + Wait, C: Clock + Copy> Driver<N, R, C> {
-    fn handles(&self) -> Result<Handles<N>, AllocError> {
+    fn handles(&self) -> Result<Handles<N>, AllocError>
+        ensures { IfOk result (λ handles. handles.audit ≡ kept_of []) }
+    {
         Ok(Handles {
             slots: Arc::try_clone(&self.kept.common.slots)?,
             totals: Arc::try_clone(&self.kept.ledgers.totals)?,
+            audit: AuditOf::new(self.alloc)?,
         })
     }
 
@@ -38,14 +45,20 @@ impl<N: DriverNaming, R: Threads + Wait, C: Clock + Copy> Driver<N, R, C> {
     fn admit(&mut self, handles: Handles<N>, number: u64, receipt: &Receipt) -> Client<N, C>
         requires room { self.old.out < 64 }
         requires ours { receipt.now.book ≡ N.book }
+        requires audit { handles.audit ≡ kept_of [] }
         ensures client { (result.number ≡ number) × (result.correlation ≡ 0) × (result.counted ≡ 0) × (result.ended ≡ false) }
+        ensures audited { result.audited ≡ kept_of [] }
         ensures learned { IsPrefix receipt.now.entries result.known.entries }
         ensures out { self.new ≡ record self.old { out = self.old.out + 1 } }
     {
         let FreeSeat { place, seat } = self.kept.seats.take();
         let share = self.kept.ledgers.clients.split_off(1, 0);
         self.out += 1;
-        let Handles { slots, totals } = handles;
+        let Handles {
+            slots,
+            totals,
+            audit,
+        } = handles;
         let Seat {
             pass,
             queue,
@@ -63,6 +76,7 @@ impl<N: DriverNaming, R: Threads + Wait, C: Clock + Copy> Driver<N, R, C> {
             cache,
             share,
             ended: None,
+            audit,
             slots,
             totals,
             clock: self.clock,
@@ -76,12 +90,14 @@ impl<N: DriverNaming, R: Threads + Wait, C: Clock + Copy> Driver<N, R, C> {
     }
 
     /// A client attaches that acts for this principal. Its number is the one under which the entry of its attach has it, and it
-    /// has seen the registry after that entry. It waits until the queue takes the event, and the conductor answers it.
+    /// has seen the registry after that entry. Nothing was decided for it yet. It waits until the queue takes the event, and the
+    /// conductor answers it.
     ///
     /// # Errors
     /// `Full` where 64 clients are out, and then nothing is asked; the others as the conductor answers.
     pub fn client(&mut self, principal: u32) -> Result<Client<N, C>, AttachFault>
         ensures attached { IfOk result (λ client. (client.correlation ≡ 0) × (client.counted ≡ 0) × (client.ended ≡ false)) }
+        ensures audited { IfOk result (λ client. client.audited ≡ kept_of []) }
         ensures done { IfOk result (λ client. Attaches principal client.number client.known self.old self.new) }
         ensures full { 64 ≤ self.old.out → IsErrOf result IsFull }
         ensures err { IfErr result (λ fault. AttachFails principal fault self.old self.new) }

@@ -4,9 +4,10 @@ ghost use Rattle.media_driver.specs.Clients.{Learns};
 ghost use Rattle.std.specs.Prelude.{◌≡◌, ◌≤◌};
 
 use crate::offering::Found;
+use audit_ring::AuditOf;
 use decision_cache::Cache;
 use log_slots::{AtEnd, OfClients, Totals};
-use media_agents::{Clock, DriverNaming, EventSender, LogAt, Mail, Slots};
+use media_agents::{Clock, Dated, DriverNaming, EventSender, LogAt, Mail, Slots};
 use published_registry::{Pass, Receipt, caches_stay_right_of_later_looks};
 use rtrb::Consumer;
 use std::alloc::Global;
@@ -34,6 +35,8 @@ pub struct Client<N: DriverNaming, C: Clock> {
     pub(crate) share: Share<OfClients<N>>,
     /// That the driver's total was at its greatest value when a message was not counted; none before.
     pub(crate) ended: Option<AtEnd<N>>,
+    /// What was decided for it.
+    pub(crate) audit: AuditOf<Dated>,
     pub(crate) slots: Arc<Slots<N>>,
     pub(crate) totals: Arc<Mutex<Totals<N>>>,
     pub(crate) clock: C,
@@ -65,6 +68,7 @@ impl<N: DriverNaming, C: Clock> Model for Client<N, C> {
       waiting = known_items client.mails;
       counted = client.share.amount;
       ended = is_some client.ended;
+      audited = client.audit;
     } };
 
     ghost invariant = { λ client. IsSome client.pass × ((history_in client.pass).book ≡ N.book)

@@ -13,7 +13,7 @@ use crate::starting::Common;
 use crate::threads::{Running, begin};
 use crate::works::{Conducting, Turns, Work};
 use log_slots::Region;
-use media_agents::{Backoff, Clock, Conductor, DriverNaming, Gate, Tallies, Works};
+use media_agents::{Backoff, Clock, Conductor, DriverNaming, Gate, Works};
 use media_wire::Wire;
 use published_registry::Publisher;
 use std::alloc::Global;
@@ -57,6 +57,7 @@ fn make_conductor<N: DriverNaming, R: Wait + Copy + Drop, G: Gate + Drop>(
 {
     let Desks {
         common,
+        notes,
         rings,
         room,
         gate,
@@ -70,6 +71,7 @@ fn make_conductor<N: DriverNaming, R: Wait + Copy + Drop, G: Gate + Drop>(
         desk,
         Region::new(arena),
         slots,
+        notes,
         room,
         alloc,
     );
@@ -184,12 +186,6 @@ impl<
             kept,
             out: 0,
         })
-    }
-
-    /// What the sender and the receiver have dropped, lost or kept back so far, by cause, verdict and address. It is for the
-    /// driver's owner alone, and takes no memory.
-    pub fn tallies(&self) -> Tallies {
-        self.kept.common.slots.tallies.lock(&self.rt).copy()
     }
 
     /// The moment by the driver's clock, in nanoseconds since 1970.

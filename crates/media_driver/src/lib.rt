@@ -7,6 +7,7 @@
 
 mod asking;
 mod attaching;
+mod auditing;
 mod client;
 mod clock;
 mod commands;
@@ -29,6 +30,8 @@ mod stopping;
 mod threads;
 mod works;
 
+pub use audit_ring::AuditOf;
+pub use auditing::Audited;
 pub use client::Client;
 pub use clock::{MachineClock, MachineTime};
 pub use driver::Driver;
@@ -38,8 +41,8 @@ pub use faults::{
 };
 pub use log_slots::PublicationPositions;
 pub use media_agents::{
-    ClientReply, Clock, DriverNaming, ElicitFault, Elicitation, Gate, Mail, Miss, Repairs, Tallies,
-    Tally,
+    Agent, ClientReply, Clock, Dated, DriverNaming, ElicitFault, Elicitation, Gate, Mail, Miss,
+    Repairs, Stamp, Tallies, Tally,
 };
 pub use parts::Parts;
 pub use positions::ImagePositions;

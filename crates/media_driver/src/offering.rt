@@ -3,21 +3,25 @@
 ghost use Rattle.driver_core.specs.Cached.{AreCached};
 ghost use Rattle.driver_steps.specs.declared.answer.Answer.TheVariants.{Offered as OfferedAs};
 ghost use Rattle.driver_steps.specs.declared.answer.Offered.TheVariants.{Closed};
+ghost use Rattle.driver_steps.specs.Decided.{offer_decision};
 ghost use Rattle.driver_steps.specs.Moves.{offer_move};
 ghost use Rattle.log_slots.specs.Counting.{taken_by};
+ghost use Rattle.media_agents.specs.Journals.{stamp_of};
+ghost use Rattle.media_driver.specs.Audits.{IsDecided, ReportsOffer};
 ghost use Rattle.media_driver.specs.Clients.{Looks};
 ghost use Rattle.media_driver.specs.Steps.{Counts, IsOffer, IsStep, offer_answer};
 ghost use Rattle.published_registry.specs.Histories.{IsContinuedBy, registry_of};
 ghost use Rattle.std.specs.Prelude.{◌≡◌, ◌+◌, ◌≤◌, ◌⊎◌, IfErr, IfNone, IfSome, IsSome, Err, None};
 
+use crate::auditing::tell;
 use crate::client::Client;
 use crate::faults::OfferFault;
 use channel_uri::Media;
 use decision_cache::Cache;
 use driver_core::View;
-use driver_steps::{Answer, Offered, Told};
+use driver_steps::{Answer, Offered};
 use log_slots::{AtEnd, Late, OfClients, Slot, Totals, lock_soon};
-use media_agents::{Clock, DriverNaming, LogAt};
+use media_agents::{Clock, DriverNaming, LogAt, Stamp, Stepped};
 use published_registry::{Pass, caches_stay_right_of_later_looks};
 use std::sync::ledger::Share;
 use std::sync::{Mutex, Wait};
@@ -67,7 +71,7 @@ fn offer_once<N: DriverNaming, R: Wait>(
     client: u64,
     registration: u64,
     message: &[u8],
-) -> (Pass, Option<Told>)
+) -> (Pass, Option<Stepped>)
     requires part { mine.old.parts ≡ 1 }
     requires right { AreCached (registry_of pass) cache.old }
     ensures known { IsContinuedBy pass result.0 }
@@ -75,7 +79,9 @@ fn offer_once<N: DriverNaming, R: Wait>(
     ensures right { AreCached (registry_of result.0) cache.new }
     ensures counted { IfSome result.1 (λ told. (mine.new.amount ≡ mine.old.amount + taken_by told.answer) ⊎ ((mine.new.amount ≡ mine.old.amount) × IsSome ended.new)) }
     ensures none { IfNone result.1 (mine.new.amount ≡ mine.old.amount) }
+    ensures stamp { IfSome result.1 (λ told. told.stamp ≡ stamp_of result.0) }
     ensures step { IfSome result.1 (λ told. IsStep N.home (offer_move (registry_of result.0) now client registration message.now) (OfferedAs Closed) told.answer) }
+    ensures decides { IfSome result.1 (λ told. IsDecided N.home (offer_move (registry_of result.0) now client registration message.now) (offer_decision (registry_of result.0) client registration) (OfferedAs Closed) told.answer told.decision) }
 {
     caches_stay_right_of_later_looks();
     let mut slot = lock_soon(rt, slot);
@@ -98,6 +104,7 @@ fn offer_once<N: DriverNaming, R: Wait>(
                 message,
             );
             *ended = late.end;
+            let told = Stepped::of(told, Stamp::of(&look));
             (look.leave(), Some(told))
         }
         Err(pass) => (pass, None),
@@ -105,7 +112,7 @@ fn offer_once<N: DriverNaming, R: Wait>(
 }
 
 /// What the answer of a step says.
-fn position_of(told: &Told) -> Result<u64, OfferFault>
+fn position_of(told: &Stepped) -> Result<u64, OfferFault>
     ensures answer { IfSome (offer_answer result) (λ answer. told.now.answer ≡ answer) }
     ensures counted { IfErr result (λ _. taken_by told.now.answer ≡ 0) }
 {
@@ -159,11 +166,13 @@ impl<N: DriverNaming, C: Clock> Client<N, C> {
 
     /// Offers a message to the log of a publication of this client's, and gives the position after it. It is one look, if
     /// the client does not remember where that log is, and then one hold of the log's lock with one look within it. Such a
-    /// message is counted by the client's share, unless the total is at its greatest value; no other is. It takes no memory.
+    /// message is counted by the client's share, unless the total is at its greatest value; no other is. What was decided is
+    /// kept in the client's audit. It takes no memory.
     ///
     /// # Errors
     /// The first that applies, by the registry of that look: `Closed`, `Denied`, `TooLong`, `NotConnected`, `MaxPosition`,
     /// `BackPressured`, `AdminAction`; or `NoLook`, and then nothing is offered.
+    #[tactic(auto, using(crate::proofs::AuditLemmas::step_unseen))]
     pub fn offer<R: Wait>(
         &mut self,
         rt: &R,
@@ -172,9 +181,10 @@ impl<N: DriverNaming, C: Clock> Client<N, C> {
     ) -> Result<u64, OfferFault>
         ensures known { IsContinuedBy self.old.known self.new.known }
         ensures moment { self.old.moment ≤ self.new.moment }
-        ensures same { self.new ≡ record self.old { known = self.new.known; moment = self.new.moment; counted = self.new.counted; ended = self.new.ended } }
+        ensures same { self.new ≡ record self.old { known = self.new.known; moment = self.new.moment; counted = self.new.counted; ended = self.new.ended; audited = self.new.audited } }
         ensures counted { Counts result self.old self.new }
         ensures step { IsOffer N.home (registry_of self.new.known) self.new.moment self.old.number registration message.now result }
+        ensures audit { ReportsOffer N.home self.new.known self.new.moment self.old.number registration message.now result self.old.audited self.new.audited }
     {
         caches_stay_right_of_later_looks();
         let Some(found) = self.log_of(registration) else {
@@ -208,6 +218,7 @@ impl<N: DriverNaming, C: Clock> Client<N, C> {
             return Err(OfferFault::NoLook);
         };
         self.moment = now;
+        tell(&mut self.audit, told.stamp, told.decision);
         position_of(&told)
     }
 }

@@ -1,7 +1,8 @@
 //! How long a client rests before it polls. Where a poll takes the lock as soon as a message is there, it finds that one alone
 //! and holds up who offers the next: so a client that finds little lets more come first.
 
-use driver_steps::{Answer, Told};
+use driver_steps::Answer;
+use media_agents::Stepped;
 
 /// How many fragments are enough for one hold of the lock.
 const ENOUGH: usize = 16;
@@ -26,7 +27,7 @@ fn steps_after(steps: u32, limit: u32, given: usize) -> u32 {
 }
 
 /// The same, by the answer of that poll.
-pub(crate) fn next_rest(steps: u32, limit: u32, told: &Told) -> u32 {
+pub(crate) fn next_rest(steps: u32, limit: u32, told: &Stepped) -> u32 {
     match &told.answer {
         Answer::Polled(fragments) => steps_after(steps, limit, fragments.len()),
         _ => 0,

@@ -2,13 +2,17 @@
 
 ghost use Rattle.driver_core.specs.Cached.{AreCached};
 ghost use Rattle.driver_steps.specs.declared.answer.Answer.TheVariants.{Gone};
+ghost use Rattle.driver_steps.specs.Decided.{decision_for, poll_decision};
 ghost use Rattle.driver_steps.specs.Moves.{Move, WholeLog};
 ghost use Rattle.log_arena.specs.Homes.{Home};
-ghost use Rattle.media_driver.specs.Clients.{Looks};
+ghost use Rattle.media_agents.specs.Journals.{stamp_of};
+ghost use Rattle.media_driver.specs.Audits.{IsDecided, ReportsPoll};
+ghost use Rattle.media_driver.specs.Clients.{Consults, Looks};
 ghost use Rattle.media_driver.specs.Steps.{IsGiving, IsPoll, IsStep, MayLack, poll_answer, poll_of};
 ghost use Rattle.published_registry.specs.Histories.{IsContinuedBy, registry_of};
-ghost use Rattle.std.specs.Prelude.{◌≡◌, Err, None, IfErr, IfOk, IfSome, OnErr};
+ghost use Rattle.std.specs.Prelude.{◌≡◌, Err, None, IfErr, IfOk, IfSome, IsErr, IsOk, OnErr, OnOk};
 
+use crate::auditing::tell;
 use crate::client::Client;
 use crate::faults::PollFault;
 use crate::pacing::next_rest;
@@ -16,7 +20,7 @@ use decision_cache::Cache;
 use driver_core::View;
 use driver_steps::{Answer, FragmentCopies, Told};
 use log_slots::{LogSlot, Slot, lock_soon, rest};
-use media_agents::{Clock, DriverNaming, LogAt, Slots};
+use media_agents::{Clock, DriverNaming, LogAt, Slots, Stamp, Stepped};
 use published_registry::{Pass, caches_stay_right_of_later_looks};
 use std::alloc::{AllocError, Global};
 use std::sync::{Mutex, Wait};
@@ -41,6 +45,15 @@ fn find(pass: Pass, source: u64) -> (Pass, Option<Option<LogAt>>)
     }
 }
 
+/// What came of a step, by that registry.
+fn stamped(told: Result<Told, AllocError>, stamp: Stamp) -> Result<Stepped, AllocError>
+    ensures ok { IfOk result (λ it. (it.stamp ≡ stamp) × IfOk told (λ told. (told.answer ≡ it.answer) × (told.decision ≡ it.decision))) }
+    ensures was { OnOk result (IsOk told) }
+    ensures err { OnErr result (IsErr told) }
+{
+    Ok(Stepped::of(told?, stamp))
+}
+
 /// One hold of the lock of a publication's log, with one look within it.
 fn poll_publication<N: DriverNaming, R: Wait>(
     rt: &R,
@@ -52,12 +65,14 @@ fn poll_publication<N: DriverNaming, R: Wait>(
     client: u64,
     subscription: u64,
     limit: u32,
-) -> (Pass, Option<Result<Told, AllocError>>)
+) -> (Pass, Option<Result<Stepped, AllocError>>)
     requires right { AreCached (registry_of pass) cache.old }
     ensures known { IsContinuedBy pass result.0 }
     ensures right { AreCached (registry_of result.0) cache.new }
+    ensures stamp { IfSome result.1 (λ told. IfOk told (λ told. told.stamp ≡ stamp_of result.0)) }
     ensures step { IfSome result.1 (λ told. IfOk told (λ told. IsStep N.home (poll_of (registry_of result.0) client subscription source limit) Gone told.answer)) }
     ensures memory { IfSome result.1 (λ told. OnErr told (IsGiving N.home (poll_of (registry_of result.0) client subscription source limit))) }
+    ensures decides { IfSome result.1 (λ told. IfOk told (λ told. IsDecided N.home (poll_of (registry_of result.0) client subscription source limit) (decision_for source (poll_decision (registry_of result.0) client subscription)) Gone told.answer told.decision)) }
 {
     caches_stay_right_of_later_looks();
     let mut slot = lock_soon(rt, slot);
@@ -65,6 +80,7 @@ fn poll_publication<N: DriverNaming, R: Wait>(
     match pass.enter() {
         Ok(look) => {
             let told = slot.poll(&look, cache, alloc, client, subscription, source, limit);
+            let told = stamped(told, Stamp::of(&look));
             (look.leave(), Some(told))
         }
         Err(pass) => (pass, None),
@@ -82,12 +98,14 @@ fn poll_image<N: DriverNaming, R: Wait>(
     client: u64,
     subscription: u64,
     limit: u32,
-) -> (Pass, Option<Result<Told, AllocError>>)
+) -> (Pass, Option<Result<Stepped, AllocError>>)
     requires right { AreCached (registry_of pass) cache.old }
     ensures known { IsContinuedBy pass result.0 }
     ensures right { AreCached (registry_of result.0) cache.new }
+    ensures stamp { IfSome result.1 (λ told. IfOk told (λ told. told.stamp ≡ stamp_of result.0)) }
     ensures step { IfSome result.1 (λ told. IfOk told (λ told. IsStep N.home (poll_of (registry_of result.0) client subscription source limit) Gone told.answer)) }
     ensures memory { IfSome result.1 (λ told. OnErr told (IsGiving N.home (poll_of (registry_of result.0) client subscription source limit))) }
+    ensures decides { IfSome result.1 (λ told. IfOk told (λ told. IsDecided N.home (poll_of (registry_of result.0) client subscription source limit) (decision_for source (poll_decision (registry_of result.0) client subscription)) Gone told.answer told.decision)) }
 {
     caches_stay_right_of_later_looks();
     let mut slot = lock_soon(rt, slot);
@@ -95,6 +113,7 @@ fn poll_image<N: DriverNaming, R: Wait>(
     match pass.enter() {
         Ok(look) => {
             let told = slot.poll(&look, cache, alloc, client, subscription, source, limit);
+            let told = stamped(told, Stamp::of(&look));
             (look.leave(), Some(told))
         }
         Err(pass) => (pass, None),
@@ -112,12 +131,14 @@ fn poll_once<N: DriverNaming, R: Wait>(
     client: u64,
     subscription: u64,
     limit: u32,
-) -> (Pass, Option<Result<Told, AllocError>>)
+) -> (Pass, Option<Result<Stepped, AllocError>>)
     requires right { AreCached (registry_of pass) cache.old }
     ensures known { IsContinuedBy pass result.0 }
     ensures right { AreCached (registry_of result.0) cache.new }
+    ensures stamp { IfSome result.1 (λ told. IfOk told (λ told. told.stamp ≡ stamp_of result.0)) }
     ensures step { IfSome result.1 (λ told. IfOk told (λ told. IsStep N.home (poll_of (registry_of result.0) client subscription at.source limit) Gone told.answer)) }
     ensures memory { IfSome result.1 (λ told. OnErr told (IsGiving N.home (poll_of (registry_of result.0) client subscription at.source limit))) }
+    ensures decides { IfSome result.1 (λ told. IfOk told (λ told. IsDecided N.home (poll_of (registry_of result.0) client subscription at.source limit) (decision_for at.source (poll_decision (registry_of result.0) client subscription)) Gone told.answer told.decision)) }
 {
     let place = at.slot as usize;
     if at.published {
@@ -154,7 +175,7 @@ fn poll_once<N: DriverNaming, R: Wait>(
 }
 
 /// What the answer of a step says.
-fn fragments_of(told: Told) -> Result<FragmentCopies, PollFault>
+fn fragments_of(told: Stepped) -> Result<FragmentCopies, PollFault>
     ensures answer { IfSome (poll_answer result) (λ answer. told.answer ≡ answer) }
     ensures memory { (home : Home) (move : WholeLog → Move) → IfErr result (λ fault. MayLack home move fault) }
 {
@@ -188,11 +209,13 @@ impl<N: DriverNaming, C: Clock> Client<N, C> {
 
     /// Polls the log of a source by a subscription of this client's: up to `limit` fragments from where it stands. It is one
     /// look, if the client does not remember where that log is, and then one hold of the log's lock with one look within it.
-    /// Where the last polls gave few fragments each, it rests for up to two microseconds before that hold.
+    /// Where the last polls gave few fragments each, it rests for up to two microseconds before that hold. What was decided is
+    /// kept in the client's audit.
     ///
     /// # Errors
     /// The first that applies, by the registry of that look: `Gone`, `Denied`; `NoMemory`, only where there are fragments to
     /// give; or `NoLook`, and then nothing is polled.
+    #[tactic(auto, using(crate::proofs::AuditLemmas::step_unseen))]
     pub fn poll<R: Wait>(
         &mut self,
         rt: &R,
@@ -200,9 +223,10 @@ impl<N: DriverNaming, C: Clock> Client<N, C> {
         source: u64,
         limit: u32,
     ) -> Result<FragmentCopies, PollFault>
-        ensures looks { Looks self.old self.new }
+        ensures looks { Consults self.old self.new }
         ensures step { IsPoll N.home (registry_of self.new.known) self.old.number subscription source limit result }
         ensures memory { IfErr result (λ fault. MayLack N.home (poll_of (registry_of self.new.known) self.old.number subscription source limit) fault) }
+        ensures audit { ReportsPoll N.home self.new.known self.old.number subscription source limit result self.old.audited self.new.audited }
     {
         caches_stay_right_of_later_looks();
         let Some(found) = self.log_at(source) else {
@@ -234,6 +258,7 @@ impl<N: DriverNaming, C: Clock> Client<N, C> {
             return Err(PollFault::NoMemory);
         };
         self.pace = next_rest(self.pace, limit, &told);
+        tell(&mut self.audit, told.stamp, told.decision);
         fragments_of(told)
     }
 }

@@ -13,7 +13,7 @@ use driver_core::Event;
 use log_arena::Arena;
 use media_agents::{
     DriverNaming, Elicitations, Elicited, EventSender, Gate, ReceiverAgent, Rings, SenderAgent,
-    make_elicitations,
+    Steps, make_elicitations,
 };
 use media_wire::{Shared, Wire};
 use rows::Rows;
@@ -61,9 +61,9 @@ fn make_sender<N: DriverNaming, G: Gate + Drop, W: Wire + Drop>(
     ensures passes { OnOk result (length hands.new.passes.items ≡ 65) }
     ensures senders { OnOk result (hands.new.senders ≡ hands.old.senders) }
 {
-    let slots = Arc::try_clone(&common.slots)?;
+    let steps = Steps::new(Arc::try_clone(&common.slots)?);
     let gate = Arc::try_clone(gate)?;
-    let agent = SenderAgent::new(alloc, slots, gate, hands.pass::<N>(), local)?;
+    let agent = SenderAgent::new(alloc, steps, gate, hands.pass::<N>(), local)?;
     Ok(Ready {
         turns: Sending { agent, wire },
         stop: Arc::try_clone(&common.stop)?,
@@ -86,11 +86,11 @@ fn make_receiver<N: DriverNaming, G: Gate + Drop, W: Wire + Drop>(
     ensures passes { OnOk result (length hands.new.passes.items ≡ 64) }
     ensures senders { OnOk result (length hands.new.senders.items ≡ 65) }
 {
-    let slots = Arc::try_clone(&common.slots)?;
+    let steps = Steps::new(Arc::try_clone(&common.slots)?);
     let gate = Arc::try_clone(gate)?;
     let pass = hands.pass::<N>();
     let queue = hands.sender::<N>();
-    let agent = ReceiverAgent::new(alloc, slots, gate, pass, queue, elicited)?;
+    let agent = ReceiverAgent::new(alloc, steps, gate, pass, queue, elicited)?;
     Ok(Ready {
         turns: Receiving { agent, wire },
         stop: Arc::try_clone(&common.stop)?,
@@ -170,6 +170,7 @@ fn keep<N: DriverNaming>(
 #[derive(Drop)]
 pub(crate) struct Desks<N: DriverNaming, G: Gate + Drop> {
     pub(crate) common: Common<N>,
+    pub(crate) notes: Steps<N>,
     pub(crate) rings: Rings<N>,
     pub(crate) room: Rows<u64, 512>,
     pub(crate) gate: Arc<G>,
@@ -187,11 +188,13 @@ fn make_desks<N: DriverNaming, G: Gate + Drop>(
 ) -> Result<Desks<N, G>, AllocError>
     ensures { IfOk result (λ desks. desks.arena ≡ store.arena) }
 {
+    let notes = Steps::new(Arc::try_clone(&common.slots)?);
     let common = common.again()?;
     let room = Rows::new(alloc)?;
     let Store { arena, taker } = store;
     Ok(Desks {
         common,
+        notes,
         rings,
         room,
         gate,

@@ -4,7 +4,7 @@ ghost use Rattle.std.specs.Prelude.{◌≡◌, IfOk, OnOk};
 
 use crate::parts::{Blanks, IMAGES, PUBLICATIONS};
 use log_slots::{LogSlot, Naming, OfClients, OfSlots, Slot, Totals};
-use media_agents::{Desk, DriverNaming, Slots, Tallies};
+use media_agents::{Desk, DriverNaming, Journal, Slots};
 use std::alloc::{AllocError, Global};
 use std::sync::atomic::AtomicBool;
 use std::sync::ledger::Share;
@@ -101,7 +101,7 @@ fn make_common<N: DriverNaming>(
     let slots = Slots {
         publications: publication_slots(alloc, share)?,
         images: image_slots(alloc)?,
-        tallies: Mutex::new(Tallies::new()),
+        journal: Mutex::new(Journal::new(alloc)?),
     };
     Ok(Common {
         slots: shared(alloc, slots)?,

@@ -1,10 +1,12 @@
 //! What runs on each of a driver's three threads: turns, one after another, until the driver stops.
 
 use log_slots::Naming;
-use media_agents::{Clock, Conductor, DriverNaming, Gate, ReceiverAgent, SenderAgent};
+use media_agents::{
+    Clock, Conductor, Desk, DriverNaming, Gate, ReceiverAgent, SenderAgent, Slots, Steps,
+};
 use media_wire::Wire;
 use std::sync::atomic::{AtomicBool, Ordering};
-use std::sync::{Arc, Wait};
+use std::sync::{Arc, Mutex, Wait};
 
 /// What a thread does again and again.
 pub(crate) trait Turns {
@@ -39,7 +41,7 @@ impl<T: Turns + Drop, C: Clock + Drop> Work<T, C> {
 /// The conductor. However its thread ends, the driver's logs close, and nobody gets a look at its registry any more.
 pub(crate) struct Conducting<N: DriverNaming, R: Wait + Drop, G: Gate + Drop> {
     pub(crate) rt: R,
-    pub(crate) conductor: Conductor<N, G>,
+    pub(crate) conductor: Conductor<N, Slots<N>, Mutex<Desk<N>>, Steps<N>, G>,
 }
 
 impl<N: DriverNaming, R: Wait + Drop, G: Gate + Drop> Drop for Conducting<N, R, G> {
@@ -58,7 +60,7 @@ impl<N: DriverNaming, R: Wait + Drop, G: Gate + Drop> Turns for Conducting<N, R,
 /// The sender, with the wire that it sends by.
 #[derive(Drop)]
 pub(crate) struct Sending<N: Naming, G: Gate + Drop, W: Wire + Drop> {
-    pub(crate) agent: SenderAgent<N, G>,
+    pub(crate) agent: SenderAgent<Steps<N>, G>,
     pub(crate) wire: W,
 }
 
@@ -71,7 +73,7 @@ impl<N: Naming, G: Gate + Drop, W: Wire + Drop> Turns for Sending<N, G, W> {
 /// The receiver, with the wire that it reads by.
 #[derive(Drop)]
 pub(crate) struct Receiving<N: Naming, G: Gate + Drop, W: Wire + Drop> {
-    pub(crate) agent: ReceiverAgent<N, G>,
+    pub(crate) agent: ReceiverAgent<Steps<N>, G>,
     pub(crate) wire: W,
 }
 

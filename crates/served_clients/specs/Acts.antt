@@ -12,7 +12,8 @@ use Rattle.log_arena.specs.Homes.{Home}
 use Rattle.log_pairs.specs.Polling.{Fetched}
 use Rattle.log_slots.specs.declared.positions.PublicationPositions.{PublicationPositions as LogPositions}
 use Rattle.media_agents.specs.Mails.{Posted}
-use Rattle.media_driver.specs.Clients.{Attached, Commands, Hands, IsUnseen, Looks, TakesMail}
+use Rattle.media_driver.specs.Audits.{ReportsList, ReportsOffer, ReportsPoll, ReportsValue}
+use Rattle.media_driver.specs.Clients.{Attached, Commands, Consults, Hands, IsUnseen, Looks, TakesMail}
 use Rattle.media_driver.specs.Positions.{IsPublicationShown, IsReadingShown, publication_of, reading_of}
 use Rattle.media_driver.specs.Steps.{Counts, IsOffer, IsPoll}
 use Rattle.media_driver.specs.declared.faults.LookFault.{LookFault}
@@ -39,16 +40,18 @@ pub record OffersBy (home : Home) (old new : Attached) (registration : ℕ) (mes
   pub gave : Result ℕ OfferFault
   pub known : IsContinuedBy old.known new.known
   pub moment : old.moment ≤ new.moment
-  pub same : new ≡ record old { known = new.known; moment = new.moment; counted = new.counted; ended = new.ended }
+  pub same : new ≡ record old { known = new.known; moment = new.moment; counted = new.counted; ended = new.ended; audited = new.audited }
   pub counted : Counts gave old new
   pub step : IsOffer home (registry_of new.known) new.moment old.number registration message gave
+  pub audit : ReportsOffer home new.known new.moment old.number registration message gave old.audited new.audited
   pub told_is : TellsOffer gave told
 
 -- it polls a log, by its own subscription; what is written are the fragments that it was given
 pub record PollsBy (home : Home) (old new : Attached) (subscription source limit : ℕ) (written : List ℕ) (told : Result ℕ Refusal) : Type 0 where
   pub gave : Result (List Fetched) PollFault
-  pub looks : Looks old new
+  pub looks : Consults old new
   pub step : IsPoll home (registry_of new.known) old.number subscription source limit gave
+  pub audit : ReportsPoll home new.known old.number subscription source limit gave old.audited new.audited
   pub told_is : TellsPoll gave written told
 
 -- it takes its next reply
@@ -60,16 +63,18 @@ pub record TakesReply (old new : Attached) (written : List ℕ) (told : Result B
 -- it looks at the counters that it may see
 pub record ListsBy (old new : Attached) (written : List ℕ) (told : Result ℕ Refusal) : Type 0 where
   pub gave : Result Listed LookFault
-  pub looks : Looks old new
+  pub looks : Consults old new
   pub listed : IfOk gave (λ rows. rows ≡ list (registry_of new.known) old.number)
   pub fault : IfErr gave (λ fault. IsUnseen old new fault)
+  pub audit : ReportsList new.known old.number gave old.audited new.audited
   pub told_is : TellsList gave written told
 
 -- it looks at the value of a counter
 pub record ValuesBy (old new : Attached) (number : ℕ) (told : Result ℤ Refusal) : Type 0 where
   pub gave : Result Shown LookFault
-  pub looks : Looks old new
+  pub looks : Consults old new
   pub shown : IfOk gave (λ shown. shown ≡ value (registry_of new.known) old.number number)
+  pub audit : ReportsValue new.known gave old.audited new.audited
   pub told_is : TellsValue gave told
 
 -- it is shown how far its own publication has come

@@ -1,4 +1,4 @@
-use Rattle.std.proofs.Common.{◌≡◌, Option, Some, None, ap, subst, sym, ◌∙◌}
+use Rattle.std.proofs.Common.{◌≡◌, Option, Some, ap, subst, sym, ◌∙◌}
 use Rattle.media_agents.specs.Mails.{Posted}
 use Rattle.media_driver.proofs.MailLemmas.{none_left, none_passed, one_passed}
 use Rattle.media_driver.specs.Clients.{Attached, Pops, TakesMail}

@@ -11,6 +11,7 @@ returns g c =
         looks = c.list-gave.ensures.looks;
         listed = c.list-gave.ensures.listed;
         fault = c.list-gave.ensures.fault;
+        audit = c.list-gave.ensures.audit;
         told_is = w.holds;
       };
     }

@@ -8,5 +8,6 @@ returns g c = record {
   same = c.offer-gave.ensures.same;
   counted = c.offer-gave.ensures.counted;
   step = c.offer-gave.ensures.step;
+  audit = c.offer-gave.ensures.audit;
   told_is = c.tell_offer.ensures;
 }

@@ -8,7 +8,7 @@ returns g c =
       bytes = w.bytes;
       appended = w.appended;
       holds = (
-        record { gave = c.poll-gave.result; looks = c.poll-gave.ensures.looks; step = c.poll-gave.ensures.step; told_is = w.holds },
+        record { gave = c.poll-gave.result; looks = c.poll-gave.ensures.looks; step = c.poll-gave.ensures.step; audit = c.poll-gave.ensures.audit; told_is = w.holds },
         no_fragments c.poll-gave.result w.bytes c.tell_poll-told.result w.holds,
       );
     }

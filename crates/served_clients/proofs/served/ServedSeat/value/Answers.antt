@@ -5,5 +5,6 @@ returns g c = record {
   gave = c.counter_value-gave.result;
   looks = c.counter_value-gave.ensures.looks;
   shown = c.counter_value-gave.ensures.shown;
+  audit = c.counter_value-gave.ensures.audit;
   told_is = c.tell_value.ensures;
 }
