@@ -4,7 +4,8 @@ use Rattle.std.specs.Str.{bytes_eq}
 use Rattle.channel_uri.specs.Channel.{Shape, counter_shape, denotes}
 use Rattle.channel_uri.specs.declared.error.UriError.{UriError}
 use Rattle.policy_core.specs.RuleList.{Rules}
-use Rattle.policy_query.specs.Deciding.{policy_in}
+use Rattle.policy_query.specs.Document.{policy_in}
+use Rattle.policy_query.specs.declared.document.Document.{Document}
 use Rattle.policy_text.specs.Names.{Known}
 use Rattle.policy_text.specs.declared.fault.PolicyFault.{PolicyFault}
 use Rattle.policy_answers.specs.declared.fault.AskFault.{AskFault}
@@ -15,9 +16,9 @@ abbrev pub sound : {A : Type 0} → Result A PolicyFault → Result A AskFault
 sound (Ok value) = Ok value
 sound (Err fault) = Err (faults.Policy fault)
 
--- the policy that a file's bytes are, or their first fault
-abbrev pub policy_of : Known → List ℕ → Result Rules AskFault
-policy_of names bytes = sound (policy_in names bytes)
+-- the policy that a document is, or its first fault
+abbrev pub policy_of : Known → Document → Result Rules AskFault
+policy_of names document = sound (policy_in names document)
 
 -- what is no channel is at fault
 abbrev pub valid : Result Shape UriError → Result Shape AskFault

@@ -3,6 +3,7 @@ use Rattle.std.specs.Prelude.{◌≡◌, ℕ, ℤ, List, true, Result, Ok, Err}
 use Rattle.json_answers.specs.Answers.{checked_data, decided_data}
 use Rattle.json_answers.specs.Line.{IsLine}
 use Rattle.policy_query.specs.Deciding.{decided, rules_in}
+use Rattle.policy_query.specs.declared.document.Document.{Document}
 use Rattle.policy_text.specs.Names.{Known}
 use Rattle.serde_json.specs.Data.{Data}
 use Rattle.policy_answers.specs.Answers.{answerable}
@@ -22,11 +23,11 @@ GivesLine (Ok answer) meaning = (content : Data) × (meaning ≡ Ok content) × 
 GivesLine (Err fault) meaning = Fails fault meaning
 
 -- how many rules the policy has
-abbrev pub checked_content : Known → List ℕ → Result Data AskFault
-checked_content names bytes = sound (rules_in names bytes) >>= λ rules. Ok (checked_data rules)
+abbrev pub checked_content : Known → Document → Result Data AskFault
+checked_content names document = sound (rules_in names document) >>= λ rules. Ok (checked_data rules)
 
 -- the verdict
-abbrev pub decided_content : Known → List ℕ → List ℕ → List ℕ → List ℕ → ℤ → ℕ → Result Data AskFault
-decided_content names bytes principal act channel stream moment =
-    answerable (decided names bytes principal act channel stream moment) >>= λ verdict.
+abbrev pub decided_content : Known → Document → List ℕ → List ℕ → List ℕ → ℤ → ℕ → Result Data AskFault
+decided_content names document principal act channel stream moment =
+    answerable (decided names document principal act channel stream moment) >>= λ verdict.
     Ok (decided_data verdict.allow verdict.rule verdict.epoch)

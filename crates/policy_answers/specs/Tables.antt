@@ -2,7 +2,8 @@
 use Rattle.std.specs.Prelude.{◌≡◌, ℕ, ◌<◌, ◌≤◌, Bool, true, List, Result, Ok, Err, Some}
 use Rattle.policy_core.specs.Moments.{at}
 use Rattle.policy_core.specs.RuleList.{Rules}
-use Rattle.policy_query.specs.Deciding.{policy_in}
+use Rattle.policy_query.specs.Document.{policy_in}
+use Rattle.policy_query.specs.declared.document.Document.{Document}
 use Rattle.policy_table.specs.Printed.{IsOfOne}
 use Rattle.policy_table.specs.declared.table.Table.{Table}
 use Rattle.policy_text.specs.Names.{Known, number_of}
@@ -12,9 +13,9 @@ use Rattle.policy_answers.specs.declared.answer.Answer.{Answer}
 use Rattle.policy_answers.specs.declared.fault.AskFault.{AskFault}
 use Rattle.policy_answers.specs.declared.fault.AskFault.TheVariants as faults
 
--- the policy that a file's bytes are, at a moment
-abbrev pub policy_then : Known → List ℕ → ℕ → Rules → Type 0
-policy_then names bytes moment policy = (read : Rules) × (policy_in names bytes ≡ Ok read) × (policy ≡ at read moment)
+-- the policy that a document is, at a moment
+abbrev pub policy_then : Known → Document → ℕ → Rules → Type 0
+policy_then names document moment policy = (read : Rules) × (policy_in names document ≡ Ok read) × (policy ≡ at read moment)
 
 -- the rows are those of the principal of that name
 abbrev pub IsOfOneNamed : Known → List ℕ → Sourced → Table → Type 0

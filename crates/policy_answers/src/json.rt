@@ -8,7 +8,7 @@ ghost use Rattle.policy_answers.specs.Tables.{GivesTableLine, IsOfOneNamed, poli
 ghost use Rattle.policy_answers.specs.declared.fault.AskFault.TheVariants as faults;
 ghost use Rattle.policy_core.specs.Moments.{at};
 ghost use Rattle.policy_core.specs.RuleList.{Rules};
-ghost use Rattle.policy_query.specs.Deciding.{policy_in};
+ghost use Rattle.policy_query.specs.Document.{policy_in};
 ghost use Rattle.policy_table.specs.Printed.{IsWhole};
 ghost use Rattle.policy_tools.specs.Cases.{passes};
 ghost use Rattle.std.specs.List.{list_all};
@@ -24,6 +24,7 @@ use json_answers::{Failed, Finding, Grant, Miss};
 use policy_core::{Act, Acts, Policy, Rule, Verdict};
 use policy_diff::{Change, changes_of, differences};
 use policy_lint::{Fault, Note, Report, lint};
+use policy_query::Document;
 use policy_table::{Table, TableRow};
 use policy_tools::{Case, Directory, Source, cases_in, name_at, principals_text};
 use std::alloc::{AllocError, Global};
@@ -42,7 +43,11 @@ fn wide(rule: Option<u32>) -> Option<u64>
 ///
 /// # Errors
 /// The first fault of the policy.
-pub fn check_json(alloc: Global, policy: &[u8], directory: &Directory) -> Result<Answer, AskFault>
+pub fn check_json(
+    alloc: Global,
+    policy: &Document<'_>,
+    directory: &Directory,
+) -> Result<Answer, AskFault>
     ensures { GivesLine result (checked_content directory.now policy.now) }
 {
     let checked = policy_query::check(alloc, policy, directory.names())?;
@@ -63,7 +68,7 @@ fn verdict_line(alloc: Global, verdict: Verdict) -> Result<Answer, AllocError>
 /// The first fault of the policy and the question.
 pub fn decide_json(
     alloc: Global,
-    policy: &[u8],
+    policy: &Document<'_>,
     directory: &Directory,
     principal: &str,
     act: &str,
@@ -116,7 +121,7 @@ fn explained_line(alloc: Global, found: &Explained) -> Result<Answer, AllocError
 /// The first fault of the policy and the question; a channel's with its cause.
 pub fn explain_json(
     alloc: Global,
-    policy: &[u8],
+    policy: &Document<'_>,
     directory: &Directory,
     principal: &str,
     act: &str,
@@ -204,7 +209,11 @@ fn shown_line(alloc: Global, source: &Source, directory: &Directory) -> Result<A
 ///
 /// # Errors
 /// The first fault of the policy.
-pub fn show_json(alloc: Global, policy: &[u8], directory: &Directory) -> Result<Answer, AskFault>
+pub fn show_json(
+    alloc: Global,
+    policy: &Document<'_>,
+    directory: &Directory,
+) -> Result<Answer, AskFault>
     ensures { Gives (λ answer. answer.is_well) result (list_well directory.now policy.now) }
 {
     let source = Source::read(alloc, policy, directory.names())?;
@@ -286,7 +295,7 @@ fn report_line(alloc: Global, report: &Report, path: &str) -> Result<String, All
 /// That there is no memory.
 pub fn find_faults_json(
     alloc: Global,
-    policy: &[u8],
+    policy: &Document<'_>,
     directory: &Directory,
     path: &str,
     strict: bool,
@@ -336,7 +345,7 @@ fn report_of(alloc: Global, policy: &Policy, cases: &[Case]) -> Result<Answer, A
 /// The first fault of the policy, or of the cases.
 pub fn try_cases_json(
     alloc: Global,
-    policy: &[u8],
+    policy: &Document<'_>,
     directory: &Directory,
     cases: &[u8],
     moment: u64,
@@ -408,8 +417,8 @@ fn changes_line(alloc: Global, old: &Source, changes: &[Change]) -> Result<Strin
 /// The first fault of the old policy, or of the new one.
 pub fn compare_json(
     alloc: Global,
-    old: &[u8],
-    new: &[u8],
+    old: &Document<'_>,
+    new: &Document<'_>,
     directory: &Directory,
     moment: u64,
 ) -> Result<Answer, AskFault>
@@ -484,7 +493,7 @@ fn table_line(alloc: Global, table: &Table, directory: &Directory) -> Result<Ans
 /// The first fault of the policy, or that there are more than a million rows.
 pub fn table_of_all_json(
     alloc: Global,
-    policy: &[u8],
+    policy: &Document<'_>,
     directory: &Directory,
     moment: u64,
 ) -> Result<Answer, AskFault>
@@ -500,7 +509,7 @@ pub fn table_of_all_json(
 /// The first fault of the policy, that there is no such principal, or that there are more than a million rows.
 pub fn table_of_one_json(
     alloc: Global,
-    policy: &[u8],
+    policy: &Document<'_>,
     directory: &Directory,
     principal: &str,
     moment: u64,

@@ -1,7 +1,7 @@
 //! What the program answers to a question about the policy in a file: the text that it prints, and whether all is well.
 //!
-//! Each call takes the bytes of the files and the names of principals. What they find is `policy_query`'s, `policy_tools`',
-//! `policy_lint`'s, `policy_table`'s and `policy_diff`'s.
+//! Each call takes the documents that the files are, each parsed once, and the names of principals. What they find is
+//! `policy_query`'s, `policy_tools`', `policy_lint`'s, `policy_table`'s and `policy_diff`'s.
 #![tactic(auto)]
 
 mod answer;

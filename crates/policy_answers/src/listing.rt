@@ -10,6 +10,7 @@ ghost use Rattle.std.specs.Prelude.{◌≡◌, ◌<◌, ◌≤◌, IfErr, IfOk};
 use crate::answer::Answer;
 use crate::fault::{AskFault, RowCount};
 use byte_strings::Text;
+use policy_query::Document;
 use policy_table::{MOST_ROWS, Table};
 use policy_tools::{Directory, Source};
 use std::alloc::{AllocError, Global};
@@ -18,7 +19,7 @@ use std::alloc::{AllocError, Global};
 ///
 /// # Errors
 /// The first fault of the policy.
-pub fn show(alloc: Global, policy: &[u8], directory: &Directory) -> Result<Answer, AskFault>
+pub fn show(alloc: Global, policy: &Document<'_>, directory: &Directory) -> Result<Answer, AskFault>
     ensures { Gives (λ answer. answer.is_well) result (list_well directory.now policy.now) }
 {
     let source = Source::read(alloc, policy, directory.names())?;
@@ -43,7 +44,7 @@ fn short_enough(table: Table) -> Result<Table, AskFault>
 /// The first fault of the policy, or that there are more than a million rows.
 pub fn table_of_all(
     alloc: Global,
-    policy: &[u8],
+    policy: &Document<'_>,
     directory: &Directory,
     moment: u64,
 ) -> Result<Table, AskFault>
@@ -60,7 +61,7 @@ pub fn table_of_all(
 /// The first fault of the policy, that there is no such principal, or that there are more than a million rows.
 pub fn table_of_one(
     alloc: Global,
-    policy: &[u8],
+    policy: &Document<'_>,
     directory: &Directory,
     principal: &str,
     moment: u64,

@@ -9,7 +9,7 @@ use crate::answer::Answer;
 use crate::fault::AskFault;
 use channel_uri::Channel;
 use policy_core::{Act, Request, Rule};
-use policy_query::DecideFault;
+use policy_query::{DecideFault, Document};
 use policy_tools::{Directory, Explanation, Reason, Source, explained, nearest, reasons_of};
 use std::alloc::{AllocError, Global};
 
@@ -17,7 +17,11 @@ use std::alloc::{AllocError, Global};
 ///
 /// # Errors
 /// The first fault of the policy.
-pub fn check(alloc: Global, policy: &[u8], directory: &Directory) -> Result<Answer, AskFault>
+pub fn check(
+    alloc: Global,
+    policy: &Document<'_>,
+    directory: &Directory,
+) -> Result<Answer, AskFault>
     ensures { Gives (λ answer. answer) result (check_answer directory.now policy.now) }
 {
     let checked = policy_query::check(alloc, policy, directory.names())?;
@@ -31,7 +35,7 @@ pub fn check(alloc: Global, policy: &[u8], directory: &Directory) -> Result<Answ
 /// The first fault of the policy and the question.
 pub fn decide(
     alloc: Global,
-    policy: &[u8],
+    policy: &Document<'_>,
     directory: &Directory,
     principal: &str,
     act: &str,
@@ -103,7 +107,7 @@ fn explained_by(
 /// What the policy, as policy 1, decides of a question, and why.
 pub(crate) fn explanation(
     alloc: Global,
-    policy: &[u8],
+    policy: &Document<'_>,
     directory: &Directory,
     principal: &str,
     act: &str,
@@ -137,7 +141,7 @@ pub(crate) fn explanation(
 /// The first fault of the policy and the question; a channel's with its cause.
 pub fn explain(
     alloc: Global,
-    policy: &[u8],
+    policy: &Document<'_>,
     directory: &Directory,
     principal: &str,
     act: &str,

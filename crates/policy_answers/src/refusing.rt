@@ -1,10 +1,11 @@
 //! What is said of a text that is no policy, wherever one is read.
 
-ghost use Rattle.policy_query.specs.Deciding.{policy_in};
+ghost use Rattle.policy_query.specs.Document.{policy_in};
 ghost use Rattle.std.specs.Prelude.{◌≡◌, ◌<◌, IfOk, is_ok, is_some, length, not};
 
 use byte_strings::Text;
 use policy_faults::{Fault, Place, faults_of};
+use policy_query::Document;
 use policy_text::PolicyFault;
 use policy_tools::Directory;
 use std::alloc::{AllocError, Global};
@@ -76,21 +77,21 @@ fn said(alloc: Global, faults: &[Fault], origin: Origin<'_>) -> Result<Text, All
     Ok(Text::from(text))
 }
 
-/// What is said of bytes that are no policy: the first fault in the words of `lint`, with its place, and where there are more, how
-/// to see them. `None` where they are one.
+/// What is said of a document that is no policy: the first fault in the words of `lint`, with its place, and where there are more,
+/// how to see them. `None` where it is one.
 pub fn refusal(
     alloc: Global,
-    policy: &[u8],
+    document: &Document<'_>,
     directory: &Directory,
     origin: Origin<'_>,
 ) -> Result<Option<Text>, AllocError>
-    ensures { IfOk result (λ said. is_some said ≡ not (is_ok (policy_in directory.now policy.now))) }
+    ensures { IfOk result (λ said. is_some said ≡ not (is_ok (policy_in directory.now document.now))) }
 {
-    match policy_query::policy_in(alloc, policy, directory.names()) {
+    match document.policy(alloc, directory.names()) {
         Ok(_) => Ok(None),
         Err(PolicyFault::NoMemory) => Err(AllocError),
         Err(fault) => {
-            let faults = faults_of(alloc, policy, directory, fault)?;
+            let faults = faults_of(alloc, document, directory, fault)?;
             Ok(Some(said(alloc, faults.as_slice(), origin)?))
         }
     }

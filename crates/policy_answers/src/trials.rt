@@ -7,7 +7,7 @@ ghost use Rattle.policy_answers.specs.declared.fault.AskFault.TheVariants as fau
 ghost use Rattle.policy_core.specs.Moments.{at};
 ghost use Rattle.policy_core.specs.RuleList.{Rules};
 ghost use Rattle.policy_diff.specs.Diff.{IsDiff};
-ghost use Rattle.policy_query.specs.Deciding.{policy_in};
+ghost use Rattle.policy_query.specs.Document.{policy_in};
 ghost use Rattle.policy_tools.specs.Cases.{passes};
 ghost use Rattle.std.specs.List.{list_all};
 ghost use Rattle.std.specs.Prelude.{◌≡◌, IfErr, IfOk, Ok, false, is_ok, true};
@@ -18,6 +18,7 @@ use byte_strings::Text;
 use policy_core::Policy;
 use policy_diff::{Row, are_apart, diff_text, differences};
 use policy_lint::lint;
+use policy_query::Document;
 use policy_tools::{Case, Directory, Failure, Report, Source, cases_in};
 use std::alloc::{AllocError, Global};
 
@@ -29,7 +30,7 @@ use std::alloc::{AllocError, Global};
 /// That there is no memory.
 pub fn find_faults(
     alloc: Global,
-    policy: &[u8],
+    policy: &Document<'_>,
     directory: &Directory,
     path: &str,
     strict: bool,
@@ -85,7 +86,7 @@ fn tried(alloc: Global, policy: &Policy, cases: &[Case]) -> Result<Answer, Alloc
 /// The first fault of the policy, or of the cases.
 pub fn try_cases(
     alloc: Global,
-    policy: &[u8],
+    policy: &Document<'_>,
     directory: &Directory,
     cases: &[u8],
     moment: u64,
@@ -117,8 +118,8 @@ pub(crate) fn compared(text: String, rows: &[Row]) -> Answer
 /// The first fault of the old policy, or of the new one.
 pub fn compare(
     alloc: Global,
-    old: &[u8],
-    new: &[u8],
+    old: &Document<'_>,
+    new: &Document<'_>,
     directory: &Directory,
     moment: u64,
 ) -> Result<Answer, AskFault>

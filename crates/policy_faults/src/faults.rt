@@ -9,10 +9,10 @@ use byte_strings::Text;
 use channel_uri::Pattern;
 use moment_words::{MomentFault, moment_of};
 use policy_core::Act;
+use policy_query::Document;
 use policy_text::PolicyFault;
 use policy_tools::Directory;
 use std::alloc::{AllocError, Global};
-use std::str;
 use toml::value::Array;
 use toml::{Table, Value};
 
@@ -456,31 +456,28 @@ fn unreadable(
     Ok(whole(place, Cause::NotToml(message)))
 }
 
-/// What is found in a text.
-fn found_in(alloc: Global, text: &str, directory: &Directory) -> Result<Vec<Fault>, AllocError> {
+/// What is found in a document.
+fn found_of(
+    alloc: Global,
+    document: &Document<'_>,
+    directory: &Directory,
+) -> Result<Vec<Fault>, AllocError> {
     let mut found = Found {
-        places: places_in(alloc, text)?,
+        places: places_in(alloc, document.text())?,
         faults: Vec::new(alloc),
     };
-    match toml::table_from_str(alloc, text) {
-        Ok(table) => found.document(alloc, &table, directory)?,
-        Err(error) => {
-            let fault = unreadable(alloc, text, &error, &found.places)?;
+    match document {
+        Document::Toml { table, .. } => found.document(alloc, table, directory)?,
+        Document::NotToml { text, error } => {
+            let fault = unreadable(alloc, text, error, &found.places)?;
+            found.faults.push(fault)?;
+        }
+        Document::NotText { before } => {
+            let fault = whole(place_after(before), Cause::NotText);
             found.faults.push(fault)?;
         }
     }
     Ok(found.faults)
-}
-
-/// What is found in the bytes of a file.
-fn found_of(alloc: Global, bytes: &[u8], directory: &Directory) -> Result<Vec<Fault>, AllocError> {
-    match str::from_utf8(bytes) {
-        Ok(text) => found_in(alloc, text, directory),
-        Err(error) => {
-            let before = bytes.get(..error.valid_up_to()).unwrap_or(&[]);
-            Ok(vec![in alloc; whole(place_after(before), Cause::NotText)]?)
-        }
-    }
 }
 
 /// A fault that is that refusal, where no place of it is found.
@@ -500,16 +497,17 @@ fn is_first(refusal: PolicyFault, faults: &[Fault]) -> bool
     }
 }
 
-/// The faults of a file, which was refused with `refusal`: all that are found, and at least that one. It is the first of them.
+/// The faults of a document, which was refused with `refusal`: all that are found, and at least that one. It is the first of
+/// them.
 pub fn faults_of(
     alloc: Global,
-    bytes: &[u8],
+    document: &Document<'_>,
     directory: &Directory,
     refusal: PolicyFault,
 ) -> Result<Vec<Fault>, AllocError>
     ensures { IfOk result (λ faults. IsFirst refusal faults.items) }
 {
-    let mut faults = found_of(alloc, bytes, directory)?;
+    let mut faults = found_of(alloc, document, directory)?;
     if is_first(refusal, faults.as_slice()) {
         return Ok(faults);
     }

@@ -1,6 +1,6 @@
 //! Why a text is no policy: all that is wrong with it, each fault with its place, and what is likely meant.
 //!
-//! [`faults_of`] gives the faults of a file that was refused. The first of them is the one for which it was. [`places_in`] says
+//! [`faults_of`] gives the faults of a document that was refused. The first of them is the one for which it was. [`places_in`] says
 //! where the rules and keys of a policy's text stand, and [`nearest`] which of some words is likely meant by a misspelt one.
 #![tactic(auto)]
 

@@ -2,7 +2,7 @@ ghost use Rattle.policy_core.specs.RuleList.{Rules};
 ghost use Rattle.policy_lint.specs.Ending.{IsGone, ended_from, ending_of, is_among};
 ghost use Rattle.policy_lint.specs.Report.{IsOf, is_clean};
 ghost use Rattle.policy_lint.specs.declared.ending.Ends.TheVariants.{Past};
-ghost use Rattle.policy_query.specs.Deciding.{policy_in};
+ghost use Rattle.policy_query.specs.Document.{policy_in};
 ghost use Rattle.policy_text.specs.declared.fault.PolicyFault.{PolicyFault};
 ghost use Rattle.std.specs.List.{All};
 ghost use Rattle.policy_faults.specs.Fault.{IsFirst};
@@ -16,10 +16,10 @@ use crate::warning::Warning;
 use crate::warnings::warnings_of;
 use byte_strings::Text;
 use policy_faults::{Fault, faults_of, places_in};
+use policy_query::Document;
 use policy_text::PolicyFault;
 use policy_tools::{Directory, Source};
 use std::alloc::{AllocError, Global};
-use std::str;
 
 /// What is found in a policy's text.
 #[derive(Drop)]
@@ -75,14 +75,11 @@ fn warned(
 ) -> Result<Report, AllocError>
     ensures { IfOk result (λ report. IsOf source.now.policy moment soon report) }
 {
-    let Ok(table) = toml::table_from_str(alloc, text) else {
-        return Err(AllocError);
-    };
     let places = places_in(alloc, text)?;
     let rules = rules_of(alloc, source, &places)?;
-    let unmet = unmet_in(alloc, source, &places, &table, moment)?;
+    let unmet = unmet_in(alloc, source, &places, moment)?;
     let hidden = hidden_in(alloc, source)?;
-    let warnings = warnings_of(alloc, source, hidden.as_slice(), places, &table, moment)?;
+    let warnings = warnings_of(alloc, source, hidden.as_slice(), places, moment)?;
     Ok(Report {
         faults: Vec::new(alloc),
         hidden,
@@ -95,17 +92,17 @@ fn warned(
     })
 }
 
-/// What is found in a text that is no policy.
+/// What is found in a document that is no policy.
 fn refused(
     alloc: Global,
-    bytes: &[u8],
+    document: &Document<'_>,
     directory: &Directory,
     fault: PolicyFault,
 ) -> Result<Report, AllocError>
     ensures { IfOk result (λ report. IsFirst fault report.faults.items) }
 {
     Ok(Report {
-        faults: faults_of(alloc, bytes, directory, fault)?,
+        faults: faults_of(alloc, document, directory, fault)?,
         hidden: Vec::new(alloc),
         unmet: Vec::new(alloc),
         over: Vec::new(alloc),
@@ -116,27 +113,23 @@ fn refused(
     })
 }
 
-/// Looks at the bytes of a policy's file: for its faults, where it is no policy, and else for what is likely not meant, at a
-/// moment in nanoseconds since 1970: for rules that are over then and, if `soon` is given, for those that end within so many
-/// nanoseconds from it. There is a fault exactly where [`policy_query::policy_in`] refuses the bytes, and the first one is that
-/// for which it does.
+/// Looks at a document: for its faults, where it is no policy, and else for what is likely not meant, at a moment in nanoseconds
+/// since 1970: for rules that are over then and, if `soon` is given, for those that end within so many nanoseconds from it. There
+/// is a fault exactly where [`Document::policy`] refuses the document, and the first one is that for which it does.
 pub fn lint(
     alloc: Global,
-    bytes: &[u8],
+    document: &Document<'_>,
     directory: &Directory,
     moment: u64,
     soon: Option<u64>,
 ) -> Result<Report, AllocError>
-    ensures accepted { (policy : Rules) → policy_in directory.now bytes.now ≡ Ok policy → IfOk result (λ report. IsOf policy moment soon report) }
-    ensures refused { (fault : PolicyFault) → policy_in directory.now bytes.now ≡ Err fault → IfOk result (λ report. IsFirst fault report.faults.items) }
+    ensures accepted { (policy : Rules) → policy_in directory.now document.now ≡ Ok policy → IfOk result (λ report. IsOf policy moment soon report) }
+    ensures refused { (fault : PolicyFault) → policy_in directory.now document.now ≡ Err fault → IfOk result (λ report. IsFirst fault report.faults.items) }
 {
-    match Source::read(alloc, bytes, directory.names()) {
-        Ok(source) => match str::from_utf8(bytes) {
-            Ok(text) => warned(alloc, &source, text, moment, soon),
-            Err(_) => Err(AllocError),
-        },
+    match Source::read(alloc, document, directory.names()) {
+        Ok(source) => warned(alloc, &source, document.text(), moment, soon),
         Err(PolicyFault::NoMemory) => Err(AllocError),
-        Err(fault) => refused(alloc, bytes, directory, fault),
+        Err(fault) => refused(alloc, document, directory, fault),
     }
 }
 

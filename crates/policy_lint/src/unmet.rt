@@ -6,7 +6,6 @@ ghost use Rattle.std.specs.Prelude.{◌≡◌, ◌<◌, IfOk, IfSome, OnOk, leng
 
 use crate::asking::{Asked, asker, moment_for, nobody_may, stream_in};
 use crate::examples::{Spoken, common_example, example, learning_example, spoken_at};
-use crate::warnings::principal_at;
 use byte_strings::Text;
 use channel_uri::{Channel, Media};
 use policy_core::{Act, Acts, Policy, Rule};
@@ -14,7 +13,6 @@ use policy_faults::{Place, Places};
 use policy_tools::Source;
 use std::alloc::{AllocError, Global};
 use std::fmt;
-use toml::Table;
 
 /// What nobody may do that is needed.
 #[derive(Clone, Copy, Debug, PartialEq, Eq)]
@@ -328,19 +326,18 @@ fn put_unmet(
     Ok(())
 }
 
-/// What is found of the rules of a policy at a moment, which the table is the document of, in their order.
+/// What is found of the rules of a policy at a moment, in their order.
 pub(crate) fn unmet_in(
     alloc: Global,
     source: &Source,
     places: &Places,
-    table: &Table,
     moment: u64,
 ) -> Result<Vec<Unmet>, AllocError>
     ensures { IfOk result (λ found. All (IsUnmet source.now.policy) found.items) }
 {
     let mut found = Vec::new(alloc);
     for at in 0..source.rules().len() {
-        let name = principal_at(table, at).unwrap_or("*");
+        let name = source.principal(at);
         let place = places.of(at.saturating_add(1), "act");
         put_unmet(
             alloc,

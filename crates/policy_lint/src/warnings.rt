@@ -11,7 +11,6 @@ use policy_core::{Act, Principals, Rule};
 use policy_faults::Places;
 use policy_tools::{Source, may_meet};
 use std::alloc::{AllocError, Global};
-use toml::Table;
 
 /// The warnings about the rules of a policy, as they are found.
 #[derive(Drop)]
@@ -184,12 +183,6 @@ fn is_everything(rule: &Rule) -> bool {
     is_of_all && has_every_act(rule) && rule.low == i32::MIN && rule.high == i32::MAX && rule.allow
 }
 
-/// What the text calls the principal of a rule.
-pub(crate) fn principal_at(table: &Table, at: usize) -> Option<&str> {
-    let rules = table.get("rule")?.as_array()?;
-    rules.get(at)?.as_table()?.get("principal")?.as_str()
-}
-
 /// Whether the policy decides all requests with the same words without the rule at a place: the default has its word, and so has
 /// each later rule that may match a request of it.
 fn changes_nothing(source: &Source, at: usize) -> bool
@@ -207,14 +200,12 @@ fn changes_nothing(source: &Source, at: usize) -> bool
     true
 }
 
-/// The warnings about the rules of a policy at a moment, which the table is the document of, but for those about hidden rules,
-/// and about rules that end.
+/// The warnings about the rules of a policy at a moment, but for those about hidden rules, and about rules that end.
 pub(crate) fn warnings_of(
     alloc: Global,
     source: &Source,
     hidden: &[Hidden],
     places: Places,
-    table: &Table,
     moment: u64,
 ) -> Result<Vec<Warning>, AllocError> {
     let mut warned = Warned {
@@ -231,12 +222,11 @@ pub(crate) fn warnings_of(
             text,
             shape: shape_of(text, &rule.channel),
         };
-        let principal = principal_at(table, at).unwrap_or("*");
         warned.whole(source, looked)?;
         if !hidden.iter().any(|rule| rule.at == at) {
             warned.effect(source, looked)?;
         }
-        warned.rule(alloc, source, looked, principal)?;
+        warned.rule(alloc, source, looked, source.principal(at))?;
     }
     if source.rules().is_empty() && source.policy().default_allows() {
         let place = warned.places.of(0, "default");

@@ -1,1 +1,2 @@
 pub mod DecidingLemmas
+mod DocumentLemmas

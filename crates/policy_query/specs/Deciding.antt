@@ -1,7 +1,7 @@
 -- What the policy in a file decides of a question: a principal, an act, a channel and a stream (own).
 use Rattle.std.specs.Prelude.{◌≡◌, ℕ, ◌+◌, ℤ, zero, suc, List, [], ◌∷◌, ◌++◌, Option, Some, None, Result, Ok, Err, length, codes, if◌then◌else◌}
 use Rattle.std.specs.Fmt.{decimal}
-use Rattle.std.specs.Str.{bytes_eq, is_utf8}
+use Rattle.std.specs.Str.{bytes_eq}
 use Rattle.channel_uri.specs.declared.error.UriError.{UriError}
 use Rattle.channel_uri.specs.Channel.{Shape, counter_shape, denotes}
 use Rattle.channel_uri.specs.Fault.{fault_text as channel_fault_text}
@@ -11,11 +11,11 @@ use Rattle.policy_core.specs.Moments.{at}
 use Rattle.policy_core.specs.RuleList.{Rules}
 use Rattle.policy_core.specs.Rules.{verdict_of}
 use Rattle.policy_text.specs.declared.fault.PolicyFault.{PolicyFault}
-use Rattle.policy_text.specs.declared.fault.PolicyFault.TheVariants as text
-use Rattle.policy_text.specs.Document.{policy_of}
 use Rattle.policy_text.specs.Fault.{fault_text as policy_fault_text}
 use Rattle.policy_text.specs.Names.{Known, number_of}
+use Rattle.policy_query.specs.Document.{policy_in}
 use Rattle.policy_query.specs.declared.deciding.DecideFault.{DecideFault}
+use Rattle.policy_query.specs.declared.document.Document.{Document}
 use Rattle.policy_query.specs.declared.deciding.DecideFault.TheVariants.{Policy, UnknownPrincipal, UnknownAct, InvalidChannel, NoMemory}
 
 -- `p1`, `p2` and so on, each with its number
@@ -27,17 +27,13 @@ principals_to (suc n) = principals_to n ++ (codes "p" ++ decimal (n + 1), n + 1)
 unfoldable pub principals : Known
 principals = principals_to 63
 
--- the policy that a file's bytes are; bytes that are not UTF-8 are no TOML
-unfoldable pub policy_in : Known → List ℕ → Result Rules PolicyFault
-policy_in names bytes = if is_utf8 bytes then policy_of names bytes else Err text.NotToml
-
 -- how many rules the policy in a file has
 abbrev pub count_of : Result Rules PolicyFault → Result ℕ PolicyFault
 count_of (Ok policy) = Ok (length policy.rules)
 count_of (Err fault) = Err fault
 
-unfoldable pub rules_in : Known → List ℕ → Result ℕ PolicyFault
-rules_in names bytes = count_of (policy_in names bytes)
+unfoldable pub rules_in : Known → Document → Result ℕ PolicyFault
+rules_in names document = count_of (policy_in names document)
 
 abbrev pub checked_text : ℕ → List ℕ
 checked_text rules = codes "ok: " ++ (decimal rules ++ codes " rules")
@@ -71,9 +67,9 @@ subject_of word = if bytes_eq word (codes "aeron:counter") then Ok counter_shape
 
 -- the verdict of the policy in the file at that moment, as policy 1; or the first fault of the policy, the principal, the act and the
 -- channel
-unfoldable pub decided : Known → List ℕ → List ℕ → List ℕ → List ℕ → ℤ → ℕ → Result Verdict DecideFault
-decided names bytes principal act channel stream moment =
-    sound (policy_in names bytes) >>= λ policy.
+unfoldable pub decided : Known → Document → List ℕ → List ℕ → List ℕ → ℤ → ℕ → Result Verdict DecideFault
+decided names document principal act channel stream moment =
+    sound (policy_in names document) >>= λ policy.
     known UnknownPrincipal (number_of principal names) >>= λ number.
     known UnknownAct (act_named act) >>= λ named.
     subject_of channel >>= λ shape.

@@ -1,9 +1,10 @@
-ghost use Rattle.policy_query.specs.Deciding.{principals, principals_to, policy_in, rules_in, subject_of, decided, sound, checked_text, fault_text, Gives};
+ghost use Rattle.policy_query.specs.Deciding.{principals, principals_to, rules_in, subject_of, decided, sound, checked_text, fault_text, Gives};
+ghost use Rattle.policy_query.specs.Document.{policy_in};
 ghost use Rattle.policy_query.specs.declared.deciding.DecideFault.TheVariants.{NoMemory};
 ghost use Rattle.policy_text.specs.Fault.{Gives as GivesPolicy};
-ghost use Rattle.std.specs.Prelude.{◌≡◌, Some, None, IfOk, option_copied, if◌then◌else◌};
-ghost use Rattle.std.specs.Str.{is_utf8};
+ghost use Rattle.std.specs.Prelude.{◌≡◌, Some, IfOk};
 
+use crate::document::Document;
 use byte_strings::Text;
 use channel_uri::{Channel, UriError};
 use policy_core::{Act, Policy, Request, Verdict};
@@ -82,32 +83,15 @@ pub fn principals(alloc: Global) -> Result<Names, AllocError>
     Ok(names)
 }
 
-/// The bytes as a text, where they are UTF-8.
-fn text_in(bytes: &[u8]) -> Option<&str>
-    ensures { option_copied result ≡ (if is_utf8 bytes.now then Some bytes.now else None) }
+/// The policy that a document is, which has to be one.
+fn sound_policy(
+    alloc: Global,
+    document: &Document<'_>,
+    names: &Names,
+) -> Result<Policy, DecideFault>
+    ensures { Gives (λ policy. policy) result (sound (policy_in names.now document.now)) }
 {
-    match str::from_utf8(bytes) {
-        Ok(text) => Some(text),
-        Err(_) => None,
-    }
-}
-
-/// The policy that the bytes of a file are, or the first fault of the file.
-#[tactic(auto, unfolding(crate::specs::Deciding::policy_in))]
-pub fn policy_in(alloc: Global, bytes: &[u8], names: &Names) -> Result<Policy, PolicyFault>
-    ensures { GivesPolicy (λ policy. policy) result (policy_in names.now bytes.now) }
-{
-    match text_in(bytes) {
-        Some(text) => policy_text::read(alloc, text, names),
-        None => Err(PolicyFault::NotToml),
-    }
-}
-
-/// The policy that the bytes of a file are, which has to be one.
-fn sound_policy(alloc: Global, bytes: &[u8], names: &Names) -> Result<Policy, DecideFault>
-    ensures { Gives (λ policy. policy) result (sound (policy_in names.now bytes.now)) }
-{
-    match policy_in(alloc, bytes, names) {
+    match document.policy(alloc, names) {
         Ok(policy) => Ok(policy),
         Err(PolicyFault::NoMemory) => Err(DecideFault::NoMemory),
         Err(fault) => Err(DecideFault::Policy(fault)),
@@ -128,21 +112,21 @@ fn subject_of(word: &str) -> Result<Channel, DecideFault>
     }
 }
 
-/// Whether the bytes of a file are a policy over these names of principals, and how many rules it has.
+/// Whether a document is a policy over these names of principals, and how many rules it has.
 ///
 /// # Errors
-/// The first fault of the text; bytes that are not UTF-8 are no TOML.
+/// The first fault of the document.
 #[tactic(auto, unfolding(crate::specs::Deciding::rules_in))]
-pub fn check(alloc: Global, policy: &[u8], names: &Names) -> Result<Checked, PolicyFault>
-    ensures { GivesPolicy (λ checked. checked.rules) result (rules_in names.now policy.now) }
+pub fn check(alloc: Global, document: &Document<'_>, names: &Names) -> Result<Checked, PolicyFault>
+    ensures { GivesPolicy (λ checked. checked.rules) result (rules_in names.now document.now) }
 {
-    let policy = policy_in(alloc, policy, names)?;
+    let policy = document.policy(alloc, names)?;
     Ok(Checked {
         rules: policy.rules().len(),
     })
 }
 
-/// What the policy in a file, whose number is 1, decides of a question at a moment: may this principal do this on this
+/// What the policy that a document is, whose number is 1, decides of a question at a moment: may this principal do this on this
 /// channel and stream? The names are those of principals, in the policy and in the question. The channel is a channel's text, or
 /// `aeron:counter`; a spy is decided like the channel that it reads.
 ///
@@ -151,7 +135,7 @@ pub fn check(alloc: Global, policy: &[u8], names: &Names) -> Result<Checked, Pol
 #[tactic(auto, unfolding(crate::specs::Deciding::decided))]
 pub fn decide(
     alloc: Global,
-    policy: &[u8],
+    document: &Document<'_>,
     names: &Names,
     principal: &str,
     act: &str,
@@ -159,9 +143,9 @@ pub fn decide(
     stream: i32,
     moment: u64,
 ) -> Result<Verdict, DecideFault>
-    ensures { Gives (λ verdict. verdict) result (decided names.now policy.now principal.now act.now channel.now stream moment) }
+    ensures { Gives (λ verdict. verdict) result (decided names.now document.now principal.now act.now channel.now stream moment) }
 {
-    let policy = sound_policy(alloc, policy, names)?;
+    let policy = sound_policy(alloc, document, names)?;
     let principal = names
         .number_of(principal)
         .ok_or(DecideFault::UnknownPrincipal)?;

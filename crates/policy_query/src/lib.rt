@@ -2,5 +2,7 @@
 #![tactic(auto)]
 
 mod deciding;
+mod document;
 
-pub use deciding::{Checked, DecideFault, check, decide, policy_in, principals};
+pub use deciding::{Checked, DecideFault, check, decide, principals};
+pub use document::Document;

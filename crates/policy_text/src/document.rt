@@ -112,9 +112,12 @@ fn rules_of(
     }
 }
 
-/// The policy that a document is.
+/// The policy that a document is, whose text [`read`] would read.
+///
+/// # Errors
+/// The first fault, as there.
 #[tactic(auto, unfolding(crate::specs::Document::policy_from))]
-fn policy_from(alloc: Global, table: &Table, names: &Names) -> Result<Policy, PolicyFault>
+pub fn policy_from(alloc: Global, table: &Table, names: &Names) -> Result<Policy, PolicyFault>
     ensures exact { Gives (λ policy. policy) result (policy_from names.now (table_view table.now)) }
     ensures without_memory { has_rules (table_view table.now) ≡ false → is_ok (policy_from names.now (table_view table.now)) ≡ false → Equals (λ policy. policy) result (policy_from names.now (table_view table.now)) }
 {

@@ -1,7 +1,7 @@
 //! Policies as TOML texts.
 //!
-//! `read` gives the policy that a text denotes, or the text's first fault in a fixed order. The names of principals are
-//! not the text's: they are handed in as `Names`.
+//! `read` gives the policy that a text denotes, or the text's first fault in a fixed order; `policy_from` that of a document
+//! which is parsed already. The names of principals are not the text's: they are handed in as `Names`.
 #![tactic(auto)]
 
 mod document;
@@ -11,7 +11,7 @@ mod members;
 mod names;
 mod version;
 
-pub use document::read;
+pub use document::{policy_from, read};
 pub use fault::{Field, PolicyFault};
 pub use names::Names;
 pub use version::Version;

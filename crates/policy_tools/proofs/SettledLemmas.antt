@@ -5,7 +5,8 @@ use Rattle.channel_uri.specs.declared.pattern.Pattern.{Pattern}
 use Rattle.policy_core.specs.Moments.{as_of, at}
 use Rattle.policy_core.specs.RuleList.{Rules}
 use Rattle.policy_core.specs.declared.rule.Rule.{Rule}
-use Rattle.policy_tools.specs.Source.{AreTexts}
+use Rattle.policy_tools.specs.declared.source.Words.{Words}
+use Rattle.policy_tools.specs.Source.{AreWords}
 
 patterns : List Rule → List (Result Pattern UriError)
 patterns rules = map (λ rule. Ok rule.channel) rules
@@ -15,7 +16,7 @@ unfolding as_of patterns
 same_patterns moment [] = refl
 same_patterns moment (rule ∷ rules) = ap₂ (λ (p : Result Pattern UriError) (ps : List (Result Pattern UriError)). p ∷ ps) refl (same_patterns moment rules)
 
-pub settled_texts : (texts : List (List ℕ)) (policy now : Rules) (moment : ℕ) → now ≡ at policy moment → AreTexts texts policy.rules → AreTexts texts now.rules
+pub settled_words : (words : List Words) (policy now : Rules) (moment : ℕ) → now ≡ at policy moment → AreWords words policy.rules → AreWords words now.rules
 unfolding at patterns
-settled_texts texts policy now moment is are =
+settled_words words policy now moment is are =
     are ∙ (sym (same_patterns moment policy.rules) ∙ (λ i. patterns (sym is i).rules))

@@ -1,4 +1,4 @@
--- The texts of a document are those of its policy's patterns.
+-- The words of a document are those of its policy's rules.
 use Rattle.std.proofs.Common.{◌≡◌, ℕ, ◌+◌, Bool, true, false, not, cond, List, [], ◌∷◌, Option, Some, None, Result, Ok, Err, refl, sym, ap, ◌∙◌, subst, codes, nat_lt, unwrap_or, slice_get, get_or, zero, suc}
 use Rattle.std.specs.Prelude.{ℤ, is_some}
 use Rattle.toml.specs.Data.{Data, Items, no_items, item, Members, get_member, as_array, as_table}
@@ -12,17 +12,15 @@ use Rattle.policy_core.specs.RuleList.{Rules}
 use Rattle.policy_text.specs.declared.fault.PolicyFault.{PolicyFault}
 use Rattle.policy_text.specs.declared.fault.PolicyFault.TheVariants.{BadField, TooManyRules}
 use Rattle.policy_text.specs.declared.fault.Field.TheVariants.{Unknown, Rule as RuleField}
-use Rattle.toml.specs.Parse.{parse_document}
-use Rattle.policy_query.specs.Deciding.{policy_in}
-use Rattle.std.specs.Str.{is_utf8}
-use Rattle.policy_text.specs.Document.{default_of, is_document_key, listed_rules, policy_at, policy_by, policy_from, policy_of, rule_at, rules_at, rules_from, rules_of}
+use Rattle.policy_text.specs.Document.{default_of, is_document_key, listed_rules, policy_by, policy_from, rule_at, rules_at, rules_from, rules_of}
 use Rattle.policy_text.specs.Fault.{◌>>=◌, needed}
 use Rattle.policy_text.specs.Version.{version_of}
 use Rattle.policy_text.specs.declared.version.Version.{Version}
 use Rattle.policy_text.specs.Fields.{is_rule_key, acts_of, allow_of, channel_from, channel_of, name_of, pattern_from, moments_of, principal_of, rule_of, stream_of}
 use Rattle.policy_text.specs.Members.{all_items, all_keys, items_len, text_at}
 use Rattle.policy_text.specs.Names.{Known}
-use Rattle.policy_tools.specs.Source.{AreTexts, text_in, texts_at, texts_from, texts_in, texts_of}
+use Rattle.policy_tools.specs.declared.source.Words.{Words}
+use Rattle.policy_tools.specs.Source.{AreWords, rule_words, text_in, words_from, words_in, words_of, words_under}
 
 -- what came first is there, where there is an answer
 bound : {A B : Type 0} (first : Result A PolicyFault) (next : A → Result B PolicyFault) (b : B) → (first >>= next) ≡ Ok b → (a : A) × (first ≡ Ok a) × (next a ≡ Ok b)
@@ -69,36 +67,36 @@ channel_stands names version number table rule is =
     rule_parts (name_of number table) (principal_of names number table) (acts_of number table) (channel_of number table) (stream_of number table) (moments_of number table) (allow_of number table) rule
     (kept_on (not (all_keys (is_rule_key version) table)) (BadField number Unknown) _ rule is)
 
-rule_text : (names : Known) (version : Version) (number : ℕ) (value : Data) (rule : Rule) → rule_at names version number value ≡ Ok rule → pattern_of (text_in (as_table value)) ≡ Ok rule.channel
+rule_text : (names : Known) (version : Version) (number : ℕ) (value : Data) (rule : Rule) → rule_at names version number value ≡ Ok rule → pattern_of (text_in (codes "channel") (as_table value)) ≡ Ok rule.channel
 rule_text names version number value rule is =
     let table = bound (needed (BadField 0 RuleField) (as_table value)) (λ t. rule_of names version number t) rule is in
     let stands : as_table value ≡ Some table.0 = there (BadField 0 RuleField) (as_table value) table.0 table.1 in
-    subst (λ (t : Option Members). pattern_of (text_in t) ≡ Ok rule.channel) (sym stands)
+    subst (λ (t : Option Members). pattern_of (text_in (codes "channel") t) ≡ Ok rule.channel) (sym stands)
     (text_there number (text_at (codes "channel") table.0) rule.channel (channel_stands names version number table.0 rule table.2))
 
 -- ---- all rules
 
-items_texts : (names : Known) (version : Version) (number : ℕ) (items : Items) (rules : List Rule) → rules_from names version number items ≡ Ok rules → AreTexts (texts_of items) rules
-items_texts names version number no_items rules is = let none : [] ≡ rules = cc in subst (λ (r : List Rule). AreTexts [] r) none refl
-items_texts names version number (item value items) rules is =
+items_words : (names : Known) (version : Version) (number : ℕ) (items : Items) (rules : List Rule) → rules_from names version number items ≡ Ok rules → AreWords (words_of items) rules
+items_words names version number no_items rules is = let none : [] ≡ rules = cc in subst (λ (r : List Rule). AreWords [] r) none refl
+items_words names version number (item value items) rules is =
     let rule = bound (rule_at names version number value) (λ r. rules_from names version (number + 1) items >>= λ more. Ok (r ∷ more)) rules is in
     let more = bound (rules_from names version (number + 1) items) (λ more. Ok (rule.0 ∷ more)) rules rule.2 in
     let whole : rule.0 ∷ more.0 ≡ rules = let e = more.2 in cc in
-    subst (λ (r : List Rule). AreTexts (text_in (as_table value) ∷ texts_of items) r) whole
-    (rw (rule_text names version number value rule.0 rule.1, items_texts names version (number + 1) items more.0 more.1) refl)
+    subst (λ (r : List Rule). AreWords (rule_words (as_table value) ∷ words_of items) r) whole
+    (rw (rule_text names version number value rule.0 rule.1, items_words names version (number + 1) items more.0 more.1) refl)
 
 listed : (names : Known) (version : Version) (items : Items) (rules : List Rule) → listed_rules names version items ≡ Ok rules → rules_from names version 1 items ≡ Ok rules
 listed names version items rules is =
     kept_on (nat_lt 1024 (items_len items)) TooManyRules (rules_from names version 1 items) rules
     (kept_on (not (all_items (λ value. is_some (as_table value)) items)) (BadField 0 RuleField) _ rules is)
 
-at_texts : (names : Known) (version : Version) (value : Option Data) (rules : List Rule) → rules_at names version value ≡ Ok rules → AreTexts (texts_at value) rules
-at_texts names version None rules is = let none : [] ≡ rules = cc in subst (λ (r : List Rule). AreTexts [] r) none refl
-at_texts names version (Some value) rules is =
+at_words : (names : Known) (version : Version) (value : Option Data) (rules : List Rule) → rules_at names version value ≡ Ok rules → AreWords (words_under value) rules
+at_words names version None rules is = let none : [] ≡ rules = cc in subst (λ (r : List Rule). AreWords [] r) none refl
+at_words names version (Some value) rules is =
     let items = bound (needed (BadField 0 RuleField) (as_array value)) (λ items. listed_rules names version items) rules is in
     let stands : as_array value ≡ Some items.0 = there (BadField 0 RuleField) (as_array value) items.0 items.1 in
-    subst (λ (o : Option Items). AreTexts (texts_from o) rules) (sym stands)
-    (items_texts names version 1 items.0 rules (listed names version items.0 rules items.2))
+    subst (λ (o : Option Items). AreWords (words_from o) rules) (sym stands)
+    (items_words names version 1 items.0 rules (listed names version items.0 rules items.2))
 
 policy_parts : (default : Result Bool PolicyFault) (rules : Result (List Rule) PolicyFault) (policy : Rules) →
     (default >>= λ d. rules >>= λ r. Ok (record { rules = r; default_allows = d })) ≡ Ok policy → rules ≡ Ok policy.rules
@@ -108,46 +106,30 @@ policy_parts (Ok d) (Ok r) policy is =
     let same : record { rules = r; default_allows = d } ≡ policy = cc in
     ap (λ (p : Rules). Ok p.rules) same
 
-document_by : (names : Known) (table : Members) (version : Option Version) (policy : Rules) → policy_by names table version ≡ Ok policy → AreTexts (texts_in table) policy.rules
+document_by : (names : Known) (table : Members) (version : Option Version) (policy : Rules) → policy_by names table version ≡ Ok policy → AreWords (words_in table) policy.rules
 document_by names table None policy is = absurd (cc)
 document_by names table (Some version) policy is =
-    at_texts names version (get_member (codes "rule") table) policy.rules
+    at_words names version (get_member (codes "rule") table) policy.rules
     (policy_parts (default_of table) (rules_of names version table) policy
     (kept_on (not (all_keys is_document_key table)) (BadField 0 Unknown) _ policy is))
 
-document_texts : (names : Known) (table : Members) (policy : Rules) → policy_from names table ≡ Ok policy → AreTexts (texts_in table) policy.rules
+pub document_words : (names : Known) (table : Members) (policy : Rules) → policy_from names table ≡ Ok policy → AreWords (words_in table) policy.rules
 unfolding policy_from
-document_texts names table policy is = document_by names table (version_of table) policy is
-
-pub read_texts : (names : Known) (text : List ℕ) (table : Members) (policy : Rules) → policy_of names text ≡ Ok policy → parse_document text ≡ Some table →
-    AreTexts (texts_in table) policy.rules
-unfolding policy_of
-read_texts names text table policy read is =
-    document_texts names table policy (subst (λ (t : Option Members). policy_at names t ≡ Ok policy) is read)
-
-pub read_not : (names : Known) (text : List ℕ) (policy : Rules) → policy_of names text ≡ Ok policy → parse_document text ≡ None → ⊥
-unfolding policy_of
-read_not names text policy read is = let e : policy_at names None ≡ Ok policy = subst (λ (t : Option Members). policy_at names t ≡ Ok policy) is read in cc
-
--- a policy's bytes are a text
-pub bytes_read : (names : Known) (bytes : List ℕ) (policy : Rules) (text : Bool) → policy_in names bytes ≡ Ok policy → is_utf8 bytes ≡ text → (text ≡ true) × (policy_of names bytes ≡ Ok policy)
-unfolding policy_in
-bytes_read names bytes policy true read is = (refl, rw is at read)
-bytes_read names bytes policy false read is = let e = rw is at read in absurd (cc)
+document_words names table policy is = document_by names table (version_of table) policy is
 
 none_stands : (at : ℕ) (rule : Rule) → slice_get [] at ≡ Some rule → ⊥
 none_stands zero rule stands = cc
 none_stands (suc at) rule stands = cc
 
--- the text of a rule's pattern
-pub text_stands : (texts : List (List ℕ)) (rules : List Rule) (at : ℕ) (rule : Rule) (text : List ℕ) → AreTexts texts rules → slice_get rules at ≡ Some rule →
-    text ≡ get_or texts at text → pattern_of text ≡ Ok rule.channel
-text_stands texts [] at rule text are stands is = absurd (none_stands at rule stands)
-text_stands [] (first ∷ rules) at rule text are stands is = absurd (cc)
-text_stands (t ∷ texts) (first ∷ rules) zero rule text are stands is =
+-- the pattern of a rule
+pub pattern_stands : (words : List Words) (rules : List Rule) (at : ℕ) (rule : Rule) (word : Words) → AreWords words rules → slice_get rules at ≡ Some rule →
+    word ≡ get_or words at word → pattern_of word.channel ≡ Ok rule.channel
+pattern_stands words [] at rule word are stands is = absurd (none_stands at rule stands)
+pattern_stands [] (first ∷ rules) at rule word are stands is = absurd (cc)
+pattern_stands (w ∷ words) (first ∷ rules) zero rule word are stands is =
     let same : first ≡ rule = cc in
-    let here : pattern_of t ≡ Ok first.channel = cc in
-    ap pattern_of is ∙ (here ∙ ap (λ (r : Rule). Ok r.channel) same)
-text_stands (t ∷ texts) (first ∷ rules) (suc at) rule text are stands is =
-    let rest : AreTexts texts rules = cc in
-    text_stands texts rules at rule text rest stands is
+    let here : pattern_of w.channel ≡ Ok first.channel = cc in
+    ap (λ (x : Words). pattern_of x.channel) is ∙ (here ∙ ap (λ (r : Rule). Ok r.channel) same)
+pattern_stands (w ∷ words) (first ∷ rules) (suc at) rule word are stands is =
+    let rest : AreWords words rules = cc in
+    pattern_stands words rules at rule word rest stands is

@@ -1,40 +1,46 @@
 ghost use Rattle.channel_uri.specs.Pattern.{pattern_of};
 ghost use Rattle.policy_core.specs.Moments.{at};
-ghost use Rattle.policy_core.specs.RuleList.{Rules};
-ghost use Rattle.policy_query.specs.Deciding.{policy_in};
+ghost use Rattle.policy_query.specs.Document.{document_of, policy_in};
 ghost use Rattle.policy_text.specs.Fault.{Gives};
-ghost use Rattle.policy_text.specs.Document.{policy_of};
-ghost use Rattle.policy_text.specs.Names.{Known};
-ghost use Rattle.policy_tools.specs.Source.{AreTexts, text_in, texts_at, texts_from, texts_in, texts_of};
+ghost use Rattle.policy_tools.specs.Source.{text_in, words_at, words_in, words_of};
 ghost use Rattle.std.specs.Option.{option_map};
-ghost use Rattle.std.specs.Prelude.{◌≡◌, ◌≤◌, ◌<◌, Ok, IfOk, List, ℕ, length, map, slice_get, Some};
+ghost use Rattle.std.specs.Prelude.{◌≡◌, ◌≤◌, ◌<◌, Ok, IfOk, length, slice_get, Some};
 ghost use Rattle.toml.specs.Data.{as_table, get_member};
 ghost use Rattle.toml.specs.View.{array_view, table_view, view};
 
 use byte_strings::Text;
 use policy_core::{Policy, Rule};
-use policy_text::{Names, PolicyFault};
+use policy_query::Document;
+use policy_text::{Names, PolicyFault, policy_from};
 use std::alloc::{AllocError, Global};
 use std::marker::Model;
-use std::str;
 use toml::value::Array;
 use toml::{Table, Value};
 
-/// A policy, with the texts of its patterns as its file has them.
+/// What the text has of a rule.
+#[derive(Debug, Drop)]
+pub(crate) struct Words {
+    /// Its pattern.
+    channel: Text,
+    /// What it calls the principal; `*` for all.
+    principal: Text,
+}
+
+/// A policy, with the words of its rules as its file has them.
 #[derive(Debug, Drop)]
 pub struct Source {
     policy: Policy,
-    texts: Vec<Text>,
+    words: Vec<Words>,
 }
 
 impl Model for Source {
-    ghost use Rattle.policy_tools.specs.Source.{AreTexts, Sourced};
+    ghost use Rattle.policy_tools.specs.Source.{AreWords, Sourced};
 
     ghost Value = { Sourced };
 
-    ghost view = { λ source. record { policy = source.policy; texts = source.texts.items } };
+    ghost view = { λ source. record { policy = source.policy; words = source.words.items } };
 
-    ghost invariant = { λ source. AreTexts source.texts.items source.policy.rules };
+    ghost invariant = { λ source. AreWords source.words.items source.policy.rules };
 }
 
 /// The value of a key.
@@ -44,73 +50,69 @@ fn member<'a>(table: &'a Table, key: &str) -> Option<&'a Value>
     table.get(key)
 }
 
-/// The text of the pattern of the rule that a value is.
-fn text_in(value: &Value) -> &str
-    ensures { result.now ≡ text_in (as_table (view value.now)) }
+/// The text that the rule that a value is has under a key.
+fn text_in<'a>(value: &'a Value, key: &str) -> &'a str
+    ensures { result.now ≡ text_in key.now (as_table (view value.now)) }
 {
     let Some(table) = value.as_table() else {
         return "";
     };
-    let Some(channel) = member(table, "channel") else {
+    let Some(value) = member(table, key) else {
         return "";
     };
-    match channel.as_str() {
+    match value.as_str() {
         Some(text) => text,
         None => "",
     }
 }
 
-/// The texts of the patterns of the rules that the items are.
-fn texts_of(alloc: Global, items: &Array) -> Result<Vec<Text>, AllocError>
-    ensures { IfOk result (λ texts. texts.items ≡ texts_of (array_view items.now)) }
+/// The words of the rules that the items are.
+fn words_of(alloc: Global, items: &Array) -> Result<Vec<Words>, AllocError>
+    ensures { IfOk result (λ words. words.items ≡ words_of (array_view items.now)) }
 {
-    let mut texts = Vec::new(alloc);
+    let mut words = Vec::new(alloc);
     for value in items {
-        texts.push(Text::new(alloc, text_in(value))?)?;
+        words.push(Words {
+            channel: Text::new(alloc, text_in(value, "channel"))?,
+            principal: Text::new(alloc, text_in(value, "principal"))?,
+        })?;
     }
-    Ok(texts)
+    Ok(words)
 }
 
-/// The texts of the patterns of a document.
-fn texts_in(alloc: Global, table: &Table) -> Result<Vec<Text>, AllocError>
-    ensures { IfOk result (λ texts. texts.items ≡ texts_in (table_view table.now)) }
+/// The words of the rules of a document.
+fn words_in(alloc: Global, table: &Table) -> Result<Vec<Words>, AllocError>
+    ensures { IfOk result (λ words. words.items ≡ words_in (table_view table.now)) }
 {
     let Some(value) = member(table, "rule") else {
         return Ok(Vec::new(alloc));
     };
     match value.as_array() {
-        Some(items) => texts_of(alloc, items),
+        Some(items) => words_of(alloc, items),
         None => Ok(Vec::new(alloc)),
     }
 }
 
-/// The texts of the patterns of a text that was found to be a policy.
-fn texts_read(alloc: Global, text: &str) -> Result<Vec<Text>, AllocError>
-    ensures { (names : Known) (policy : Rules) → policy_of names text.now ≡ Ok policy → IfOk result (λ texts. AreTexts texts.items policy.rules) }
-{
-    match toml::table_from_str(alloc, text) {
-        Ok(table) => {
-            let texts = texts_in(alloc, &table)?;
-            Ok(texts)
-        }
-        Err(_) => Err(AllocError),
-    }
-}
-
 impl Source {
-    /// The policy that the bytes of a file are, with the texts of its patterns.
+    /// The policy that a document is, with its words.
     ///
     /// # Errors
-    /// The first fault of the file, as [`policy_query::policy_in`] names it.
-    pub fn read(alloc: Global, bytes: &[u8], names: &Names) -> Result<Source, PolicyFault>
-        ensures { Gives (λ source. source.policy) result (policy_in names.now bytes.now) }
+    /// The first fault of the document, as [`Document::policy`] names it.
+    #[tactic(auto, unfolding(policy_query::specs::Document::policy_in))]
+    pub fn read(
+        alloc: Global,
+        document: &Document<'_>,
+        names: &Names,
+    ) -> Result<Source, PolicyFault>
+        ensures exact { Gives (λ source. source.policy) result (policy_in names.now document.now) }
+        ensures words { IfOk result (λ source. source.words ≡ words_at (document_of document.now)) }
     {
-        let policy = policy_query::policy_in(alloc, bytes, names)?;
-        let Ok(text) = str::from_utf8(bytes) else {
+        let Document::Toml { table, .. } = document else {
             return Err(PolicyFault::NotToml);
         };
-        let texts = texts_read(alloc, text)?;
-        Ok(Source { policy, texts })
+        let policy = policy_from(alloc, table, names)?;
+        let words = words_in(alloc, table)?;
+        Ok(Source { policy, words })
     }
 
     /// The policy becomes what it is at this moment, for good: rules that do not stand then speak of nothing.
@@ -140,6 +142,14 @@ impl Source {
         requires { at < length self.now.policy.rules }
         ensures { (rule : Rule) → slice_get self.now.policy.rules at ≡ Some rule → pattern_of result.now ≡ Ok rule.channel }
     {
-        self.texts[at].as_str()
+        self.words[at].channel.as_str()
+    }
+
+    /// What the text calls the principal of a rule, counted from 0.
+    pub fn principal(&self, at: usize) -> &str
+        requires { at < length self.now.policy.rules }
+        ensures { option_map (λ words. words.principal) (slice_get self.now.words at) ≡ Some result.now }
+    {
+        self.words[at].principal.as_str()
     }
 }

@@ -1,5 +1,5 @@
 use Rattle.std.proofs.Common.{◌∙◌, sym}
-use Rattle.policy_query.specs.Deciding.{policy_in}
+use Rattle.policy_query.specs.Document.{policy_in}
 use Rattle.policy_answers.proofs.LintLemmas.{clean_is_policy, policy_is_clean}
 use Rattle.policy_answers.proofs.trials.find_faults.Goals as goal
 

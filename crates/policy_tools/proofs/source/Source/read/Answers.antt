@@ -1,17 +1,12 @@
-use Rattle.std.proofs.Common.{◌≡◌, Ok, refl, sym, subst, List, ℕ}
-use Rattle.std.specs.Str.{is_utf8}
-use Rattle.policy_query.specs.Deciding.{policy_in}
-use Rattle.policy_query.proofs.DecidingLemmas.{is_utf8-not}
-use Rattle.policy_text.specs.Document.{policy_of}
-use Rattle.policy_tools.proofs.SourceLemmas.{bytes_read}
+use Rattle.std.proofs.Common.{sym, subst, List}
+use Rattle.toml.specs.View.{table_view}
+use Rattle.policy_tools.specs.declared.source.Words.{Words}
+use Rattle.policy_tools.specs.Source.{AreWords, words_in}
+use Rattle.policy_tools.proofs.SourceLemmas.{document_words}
 use Rattle.policy_tools.proofs.source.Source.read.Goals as goal
-
-pub returns-in_default : goal.returns-in_default
-unfolding policy_in
-returns-in_default c = rw (is_utf8-not c.args.bytes.now c.in_default.ensures.cases.0) refl
 
 pub invariant_of-result : goal.invariant_of-result
 invariant_of-result c =
-    let read = bytes_read c.args.names.now c.args.bytes.now c.in_ok-policy.policy (is_utf8 c.args.bytes.now) c.in_ok-policy.ensures refl in
-    c.in_ok-texts.ensures c.args.names.now c.in_ok-policy.policy
-    (subst (λ (text : List ℕ). policy_of c.args.names.now text ≡ Ok c.in_ok-policy.policy) (sym c.in-Ok.ensures.cases.0) read.1)
+    let stands : AreWords (words_in (table_view c.in-Toml.table)) c.in_ok-policy.policy.rules =
+    document_words c.args.names.now (table_view c.in-Toml.table) c.in_ok-policy.policy c.in_ok-policy.ensures.exact in
+    subst (λ (words : List Words). AreWords words c.in_ok-policy.policy.rules) (sym c.in_ok-words.ensures) stands

@@ -1,5 +1,5 @@
-use Rattle.policy_tools.proofs.SettledLemmas.{settled_texts}
+use Rattle.policy_tools.proofs.SettledLemmas.{settled_words}
 use Rattle.policy_tools.proofs.source.Source.settle.Goals as goal
 
 pub invariant_of-self : goal.invariant_of-self
-invariant_of-self c = settled_texts c.self.inside.texts.items c.self.inside.policy c.settle.new.self c.args.moment c.settle.ensures c.self.invariant
+invariant_of-self c = settled_words c.self.inside.words.items c.self.inside.policy c.settle.new.self c.args.moment c.settle.ensures c.self.invariant
