@@ -2,7 +2,7 @@
 ghost use Rattle.std.specs.Prelude.{◌≡◌};
 
 use log_slots::{LogSlot, Naming, OfSlots, Slot};
-use media_agents::{Agent, Desk, DriverNaming, Gate, Slots, Tallies, Turn};
+use media_agents::{Agent, Desk, DriverNaming, Gate, Journal, Slots, Turn};
 use std::alloc::{AllocError, Global};
 use std::sync::ledger::{Blank, Share};
 use std::sync::{Arc, Mutex};
@@ -58,7 +58,7 @@ fn make_slots<N: Naming>(alloc: Global, parts: Blank) -> Result<Slots<N>, AllocE
     Ok(Slots {
         publications: publication_slots(alloc, &mut share)?,
         images: image_slots(alloc)?,
-        tallies: Mutex::new(Tallies::new()),
+        journal: Mutex::new(Journal::new(alloc)?),
     })
 }
 

@@ -10,12 +10,12 @@ use command_queue::Taker;
 use driver_core::{Address, Event};
 use log_arena::Arena;
 use log_slots::Region;
-use media_agents::{Conductor, DriverNaming, Ring, Rings, Slots, Works};
+use media_agents::{Conductor, Desk, DriverNaming, Ring, Rings, Slots, Steps, Works};
 use published_registry::{Pass, Publisher};
 use rows::Rows;
 use rtrb::RingBuffer;
 use std::alloc::{AllocError, Global};
-use std::sync::{Arc, Wait};
+use std::sync::{Arc, Mutex, Wait};
 
 // One ring, whose replies nobody takes.
 fn rings<N: DriverNaming>(alloc: Global) -> Result<Rings<N>, AllocError> {
@@ -50,6 +50,7 @@ impl<N: DriverNaming> Store<N> {
 struct Outfit<N: DriverNaming> {
     store: Store<N>,
     common: Common<N>,
+    notes: Steps<N>,
     taker: Taker<Event>,
     hand: Hand<N>,
     slots: Arc<Slots<N>>,
@@ -83,10 +84,12 @@ impl<N: DriverNaming> Outfit<N> {
         let store = Store::new(alloc, arena)?;
         let common = Common::new(alloc, slots)?;
         let slots = common.slots()?;
+        let notes = Steps::new(common.slots()?);
         let (taker, hand) = make_hand(alloc, &common, local, passes)?;
         Ok(Outfit {
             store,
             common,
+            notes,
             taker,
             hand,
             slots,
@@ -101,6 +104,7 @@ impl<N: DriverNaming> Outfit<N> {
         let Outfit {
             store,
             common,
+            notes,
             taker,
             hand,
             slots: kept,
@@ -111,7 +115,7 @@ impl<N: DriverNaming> Outfit<N> {
             room,
         } = store;
         let Common { slots, desk, gate } = common;
-        let works = Works::new(publisher, rings, desk, region, slots, room, alloc);
+        let works = Works::new(publisher, rings, desk, region, slots, notes, room, alloc);
         Driver {
             conductor: Conductor::new(taker, works, gate),
             hand,
@@ -122,7 +126,7 @@ impl<N: DriverNaming> Outfit<N> {
 
 // It can't be let go: its conductor ends its registry.
 pub struct Driver<N: DriverNaming> {
-    pub conductor: Conductor<N, Open>,
+    pub conductor: Conductor<N, Slots<N>, Mutex<Desk<N>>, Steps<N>, Open>,
     pub hand: Hand<N>,
     pub slots: Arc<Slots<N>>,
 }

@@ -6,7 +6,7 @@ ghost use Rattle.std.specs.Prelude.{◌≡◌};
 use crate::driver::Driver;
 use crate::parts::Parts;
 use driver_core::Settings;
-use media_agents::DriverNaming;
+use media_agents::{DriverNaming, Miss, Tallies};
 use media_wire::{Faulty, Network, Wire};
 use std::alloc::Global;
 use std::marker::Brand;
@@ -29,6 +29,19 @@ struct Seen {
     late: Option<usize>,
     // How many calls of the wire failed.
     failures: u64,
+    // How many the driver counted of them.
+    counted: u64,
+}
+
+// How many calls that failed are counted.
+fn failed_in(tallies: &Tallies) -> u64 {
+    let mut failed = tallies.others();
+    for row in tallies.rows() {
+        if matches!(row.miss, Miss::Unsent | Miss::Unheard) {
+            failed = failed.saturating_add(row.count);
+        }
+    }
+    failed
 }
 
 // A driver, and the wire that its sender and its receiver send and read by. It can't be let go, since the driver can't.
@@ -110,12 +123,14 @@ impl<N: DriverNaming> Run<N> {
         let early = self.first_turns(rt);
         self.other_turns(rt);
         let late = self.images(rt);
+        let tallies = self.driver.slots.journal.lock(rt).tallies.copy();
         Some(Seen {
             whole: self.whole,
             kept: self.kept,
             early,
             late,
             failures: self.wire.failures(),
+            counted: failed_in(&tallies),
         })
     }
 
@@ -195,6 +210,7 @@ fn is_repaired(seen: Seen, ahead: u64) -> bool {
         early: Some(wanted(&ONE_FAILS, ahead)),
         late: Some(3),
         failures: 1,
+        counted: 1,
     };
     seen == wanted
 }
@@ -208,6 +224,7 @@ fn is_cut_off(seen: Seen, ahead: u64) -> bool {
         early: images,
         late: images,
         failures: seen.failures,
+        counted: seen.failures,
     };
     seen == wanted && seen.failures > 0
 }
@@ -239,6 +256,7 @@ fn no_call_fails(rt: HostRuntime) {
         early: Some(3),
         late: Some(3),
         failures: 0,
+        counted: 0,
     };
     assert!(rt; failing(&rt, rt.alloc(), CALLS, true) == Some(wanted));
 }

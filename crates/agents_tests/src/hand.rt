@@ -6,7 +6,7 @@ use command_queue::Sender;
 use driver_core::{Address, Event};
 use media_agents::{
     DriverNaming, ElicitFault, Elicitation, Elicitations, Elicited, EventSender, ReceiverAgent,
-    SenderAgent, make_elicitations,
+    SenderAgent, Steps, make_elicitations,
 };
 use media_wire::Wire;
 use published_registry::Pass;
@@ -39,10 +39,10 @@ fn sender<N: DriverNaming>(
     common: &Common<N>,
     local: Address,
     pass: Pass,
-) -> Result<SenderAgent<N, Open>, AllocError> {
-    let slots = common.slots()?;
+) -> Result<SenderAgent<Steps<N>, Open>, AllocError> {
+    let steps = Steps::new(common.slots()?);
     let gate = common.gate()?;
-    SenderAgent::new(alloc, slots, gate, pass, local)
+    SenderAgent::new(alloc, steps, gate, pass, local)
 }
 
 // The receiver of a driver.
@@ -51,18 +51,18 @@ fn receiver<N: DriverNaming>(
     common: &Common<N>,
     ends: &mut Ends,
     elicited: Elicited,
-) -> Result<ReceiverAgent<N, Open>, AllocError> {
+) -> Result<ReceiverAgent<Steps<N>, Open>, AllocError> {
     let pass = ends.pass()?;
     let queue = ends.sender()?;
-    let slots = common.slots()?;
+    let steps = Steps::new(common.slots()?);
     let gate = common.gate()?;
-    ReceiverAgent::new(alloc, slots, gate, pass, queue, elicited)
+    ReceiverAgent::new(alloc, steps, gate, pass, queue, elicited)
 }
 
 #[derive(Drop)]
 pub struct Hand<N: DriverNaming> {
-    sender: SenderAgent<N, Open>,
-    receiver: ReceiverAgent<N, Open>,
+    sender: SenderAgent<Steps<N>, Open>,
+    receiver: ReceiverAgent<Steps<N>, Open>,
     queue: EventSender,
     elicitations: Elicitations,
     onlooker: Onlooker<N>,

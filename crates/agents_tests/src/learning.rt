@@ -190,7 +190,7 @@ impl<N: DriverNaming> Row<N> {
     // Whether just that was counted: the second was denied to join twice, by the first rule of the second policy, and twice
     // nothing was sent to it, by that of the third.
     fn is_counted<R: Wait>(&self, rt: &R) -> bool {
-        let tallies = self.driver.slots.tallies.lock(rt).copy();
+        let tallies = self.driver.slots.journal.lock(rt).tallies.copy();
         let rows = [
             of_second(Miss::Denied, 2, 2),
             of_second(Miss::Withheld, 3, 2),

@@ -1,5 +1,5 @@
 use crate::play::is_shown;
-use policy_query::{DecideFault, check, decide, principals};
+use policy_query::{DecideFault, Document, check, decide, principals};
 use std::alloc::Global;
 
 const OPEN: &[u8] = b"version = 1\ndefault = \"allow\"\n";
@@ -9,7 +9,10 @@ fn is_checked(alloc: Global, policy: &[u8], text: &str) -> bool {
     let Ok(names) = principals(alloc) else {
         return false;
     };
-    match check(alloc, policy, &names) {
+    let Ok(document) = Document::read(alloc, policy) else {
+        return false;
+    };
+    match check(alloc, &document, &names) {
         Ok(checked) => is_shown(alloc, &checked, text),
         Err(_) => false,
     }
@@ -40,7 +43,12 @@ fn is_answered(
     let Ok(names) = principals(alloc) else {
         return false;
     };
-    match decide(alloc, policy, &names, "p1", "spy", channel, stream, moment) {
+    let Ok(document) = Document::read(alloc, policy) else {
+        return false;
+    };
+    match decide(
+        alloc, &document, &names, "p1", "spy", channel, stream, moment,
+    ) {
         Ok(verdict) => is_shown(alloc, &verdict, text),
         Err(fault) => is_shown(alloc, &fault, text),
     }

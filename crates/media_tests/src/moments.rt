@@ -2,7 +2,10 @@
 use crate::asking::{Outcome, offered, published, source_of, subscribed};
 use crate::clients::{alone, attached};
 use driver_core::Reply;
-use media_driver::{Client, ClientReply, Clock, Driver, DriverNaming, PollFault};
+use media_driver::{
+    Agent, AuditOf, Audited, Client, ClientReply, Clock, Dated, Driver, DriverNaming, PollFault,
+};
+use policy_core::Act;
 use policy_text::Names;
 use std::alloc::Global;
 use std::sync::Wait;
@@ -94,6 +97,42 @@ fn one_message<N: DriverNaming, C: Clock, R: Wait>(
     }
 }
 
+/// Whether an audit has what was decided on offers, and on one poll after them, and that each was allowed.
+fn is_audited(audit: &AuditOf<Dated>) -> bool {
+    let mut offers = 0u64;
+    let mut polls = 0u64;
+    let mut registry = 1;
+    for dated in audit.items() {
+        match dated.decision.act {
+            Act::Offer if polls == 0 => offers = offers.saturating_add(1),
+            Act::Receive => polls = polls.saturating_add(1),
+            _ => return false,
+        }
+        if !dated.decision.verdict.allow || dated.stamp.registry < registry {
+            return false;
+        }
+        registry = dated.stamp.registry;
+    }
+    offers > 0 && polls == 1 && audit.dropped() == 0
+}
+
+/// Whether the conductor's audit has that the client may publish and subscribe, that its subscription may have the image, and last that it
+/// may not from a moment on.
+fn is_conducted(audit: &Audited, until: u64) -> bool {
+    let mut commands = 0u64;
+    let mut came = 0u64;
+    let mut went = 0u64;
+    for dated in audit.last.as_slice() {
+        match (dated.decision.act, dated.decision.verdict.allow) {
+            (Act::Publish | Act::Subscribe, true) => commands = commands.saturating_add(1),
+            (Act::Image, true) if went == 0 => came = came.saturating_add(1),
+            (Act::Image, false) if dated.stamp.moment >= until => went = went.saturating_add(1),
+            _ => return false,
+        }
+    }
+    commands == 2 && came > 0 && went == 1 && audit.dropped == 0
+}
+
 /// A client reads its own stream until the rule ends that lets it.
 fn reads_until<
     N: DriverNaming + Send + Sync + 'static,
@@ -113,8 +152,14 @@ fn reads_until<
         return Err("the log is gone before the rule ends");
     }
     match client.poll(&rt, subscription, source, 8) {
-        Err(PollFault::Gone) => Ok(()),
-        _ => Err("the log is read after the rule has ended"),
+        Err(PollFault::Gone) if is_audited(client.audit()) => {}
+        Err(PollFault::Gone) => return Err("the audit has something else than what was decided"),
+        _ => return Err("the log is read after the rule has ended"),
+    }
+    match driver.audit(Agent::Conductor) {
+        Ok(audit) if is_conducted(&audit, until) => Ok(()),
+        Ok(_) => Err("the conductor's audit has something else than what was decided"),
+        Err(_) => Err("there is no memory for an audit"),
     }
 }
 
