@@ -32,14 +32,14 @@ impl<N: DriverNaming + Send + Sync + 'static, R: Machine, F: Disk> Station<N, R,
         Ok(self.ready(command)?.registration)
     }
 
-    /// Publishes a stream of a channel, and prints its session. The registration id.
-    pub(crate) fn publication(&mut self, channel: &str, stream: i32) -> Result<u64, Fault> {
+    /// Publishes a stream of a channel, and prints its session.
+    pub(crate) fn publication(&mut self, channel: &str, stream: i32) -> Result<Ready, Fault> {
         let command = self.client.add_publication(&self.rt, channel, stream)?;
         let ready = self.ready(command)?;
         if let Some(session) = ready.session {
             let _ = eprintln!(self.rt; "session {session}");
         }
-        Ok(ready.registration)
+        Ok(ready)
     }
 
     /// Adds a destination to a publication of the client's.

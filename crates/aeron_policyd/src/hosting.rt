@@ -11,6 +11,7 @@ use crate::station::OwnDriver;
 use driver_service::Reason;
 use media_driver::{AttachFault, DriverNaming, ReloadFault};
 use policy_answers::{AskFault, compare, refusal};
+use policy_query::Document;
 use policy_text::Names;
 use program_parts::{Disk, Machine};
 use served_clients::Served;
@@ -53,13 +54,17 @@ pub(crate) struct Daemon<N: DriverNaming, R: Machine, F: Disk> {
 }
 
 /// What would be decided otherwise under a new policy now, in lines; nothing where it is no policy.
-fn changes<R: Machine>(rt: &R, sources: &Sources, new: &[u8]) -> Result<String, AllocError> {
+fn changes<R: Machine>(
+    rt: &R,
+    sources: &Sources,
+    new: &Document<'_>,
+) -> Result<String, AllocError> {
     let moment = match rt.since_1970() {
         Ok(since) => since.as_nanos().min(i64::MAX as u128) as u64,
         Err(_) => 0,
     };
-    let old = sources.in_force.as_slice();
-    match compare(rt.alloc(), old, new, &sources.names.directory, moment) {
+    let old = Document::read(rt.alloc(), sources.in_force.as_slice())?;
+    match compare(rt.alloc(), &old, new, &sources.names.directory, moment) {
         Ok(answer) => Ok(String::from_str(rt.alloc(), answer.text.as_str())?),
         Err(AskFault::NoMemory) => Err(AllocError),
         Err(_) => Ok(String::new(rt.alloc())),
@@ -85,8 +90,13 @@ impl Sources {
         })
     }
 
-    /// What is said of new bytes once they are in force.
-    fn said<R: Machine>(&self, rt: &R, new: &[u8], is_asked: bool) -> Result<String, AllocError> {
+    /// What is said of a new policy once it is in force.
+    fn said<R: Machine>(
+        &self,
+        rt: &R,
+        new: &Document<'_>,
+        is_asked: bool,
+    ) -> Result<String, AllocError> {
         let epoch = self.epoch.saturating_add(1);
         if !is_asked {
             return Ok(format!(in rt.alloc(); "policy {epoch} in force")?);
@@ -198,11 +208,11 @@ impl<N: DriverNaming + Send + Sync + 'static, R: Machine, F: Disk> Daemon<N, R, 
         })
     }
 
-    /// Why bytes that were read from the policy's file are no policy, where they are none.
-    fn refusal(&self, bytes: &[u8]) -> Result<Option<String>, AllocError> {
+    /// Why what was read from the policy's file is no policy, where it is none.
+    fn refusal(&self, document: &Document<'_>) -> Result<Option<String>, AllocError> {
         let Sources { path, names, .. } = &self.sources;
         let origin = names.origin(path.as_str());
-        match refusal(self.rt.alloc(), bytes, &names.directory, origin)? {
+        match refusal(self.rt.alloc(), document, &names.directory, origin)? {
             Some(why) => Ok(Some(String::from_str(self.rt.alloc(), why.as_str())?)),
             None => Ok(None),
         }
@@ -210,10 +220,11 @@ impl<N: DriverNaming + Send + Sync + 'static, R: Machine, F: Disk> Daemon<N, R, 
 
     /// New bytes are put in force, where they are a policy.
     fn taken(&mut self, bytes: &[u8], is_asked: bool) -> Result<Reloaded, AllocError> {
-        if let Some(why) = self.refusal(bytes)? {
+        let document = Document::read(self.rt.alloc(), bytes)?;
+        if let Some(why) = self.refusal(&document)? {
             return Ok(Reloaded::Refused(why));
         }
-        let said = self.sources.said(&self.rt, bytes, is_asked)?;
+        let said = self.sources.said(&self.rt, &document, is_asked)?;
         let kept = Vec::from_slice(self.rt.alloc(), bytes)?;
         let names = self.sources.names.directory.names();
         if let Some(why) = put_in_force(self.rt.alloc(), &mut self.driver, names, bytes)? {

@@ -6,12 +6,11 @@
 #![tactic(auto)]
 
 mod asking;
+mod audited;
 mod causes;
 mod connecting;
-mod consuming;
 mod fault;
 mod files;
-mod heard;
 mod hosting;
 mod keeping;
 mod messages;
@@ -22,14 +21,13 @@ mod options;
 mod policies;
 mod publishing;
 mod replies;
-mod rules;
+mod reported;
 mod running;
 mod scripts;
 mod serving;
 mod starting;
 mod station;
 mod subscribing;
-mod watched;
 
 use crate::fault::Fault;
 use crate::messages::answer_messages;

@@ -5,7 +5,7 @@ use crate::files::{bytes_of, give_up};
 use crate::options::owned;
 use policy_answers::{Origin, refusal};
 use policy_core::Policy;
-use policy_query::policy_in;
+use policy_query::Document;
 use policy_text::PolicyFault;
 use policy_tools::{Directory, NamesFault};
 use program_parts::{Disk, Machine};
@@ -70,10 +70,11 @@ impl Named {
         bytes: &[u8],
     ) -> Result<Policy, Fault> {
         let directory = &self.directory;
-        match policy_in(rt.alloc(), bytes, directory.names()) {
+        let document = Document::read(rt.alloc(), bytes)?;
+        match document.policy(rt.alloc(), directory.names()) {
             Ok(policy) => Ok(policy),
             Err(PolicyFault::NoMemory) => Err(Fault::NO_MEMORY),
-            Err(_) => match refusal(rt.alloc(), bytes, directory, self.origin(path))? {
+            Err(_) => match refusal(rt.alloc(), &document, directory, self.origin(path))? {
                 Some(why) => Err(give_up(rt, &why)),
                 None => Err(Fault::NO_MEMORY),
             },

@@ -3,27 +3,23 @@
 ghost use Rattle.driver_core.specs.Soundness.{AreSettings};
 ghost use Rattle.media_driver.specs.Parts.{AreNamed};
 
+use crate::audited::show_audits;
 use crate::causes::Causes;
-use crate::consuming::Reports;
 use crate::fault::Fault;
-use crate::heard::{Heard, both_ends};
 use crate::publishing::Publishing;
-use crate::rules::Rules;
+use crate::reported::{Notes, Reported};
 use crate::running::try_out;
 use crate::station::{Chores, OwnDriver, Station};
 use crate::subscribing::Subscribing;
-use crate::watched::{Notes, Watched};
-use channel_uri::Address;
 use driver_core::{Peer, Settings};
 use media_driver::{AttachFault, Driver, DriverNaming, Parts};
 use media_wire::Udp;
 use policy_core::Policy;
 use program_parts::{Disk, Machine};
-use rtrb::Consumer;
-use std::alloc::{AllocError, Global};
+use std::alloc::AllocError;
 use std::marker::Brand;
 use std::sync::Arc;
-use wire_causes::Said;
+use wire_causes::Side;
 
 /// How many sockets may be open at once: the send address, an endpoint for each subscription, and a control address for each
 /// publication.
@@ -43,16 +39,8 @@ pub(crate) enum Task {
 pub(crate) struct Work {
     pub(crate) principal: u32,
     pub(crate) chores: Chores,
-    /// The address from which the driver would send, if it only receives.
-    pub(crate) unused: Option<Address>,
-    /// After how long without a report a subscriber is gone, in nanoseconds.
-    pub(crate) silence: u64,
-    /// After how long without a report of any subscriber none is there, in nanoseconds.
-    pub(crate) timeout: u64,
-    /// The stream of the client's channel.
-    pub(crate) stream: i32,
-    /// What the policy says of what goes over the wire.
-    pub(crate) rules: Rules,
+    /// For what the driver is there.
+    pub(crate) side: Side,
     pub(crate) task: Task,
 }
 
@@ -70,7 +58,12 @@ fn perform<N: DriverNaming + Send + Sync + 'static, R: Machine, F: Disk>(
     task: &Task,
 ) -> Result<(), Fault> {
     match task {
-        Task::TryOut { tries } => try_out(&station.rt, &mut station.client, *tries),
+        Task::TryOut { tries } => {
+            if try_out(&station.rt, &mut station.client, *tries)? {
+                show_audits(&station.rt, &station.driver, &station.client)?;
+            }
+            Ok(())
+        }
         Task::Publish(asked) => station.publish(asked),
         Task::Subscribe(asked) => station.subscribe(asked),
     }
@@ -82,24 +75,18 @@ fn attached<N: DriverNaming + Send + Sync + 'static, R: Machine, F: Disk>(
     files: F,
     driver: OwnDriver<N, R>,
     notes: Arc<Notes>,
-    heard: Consumer<Heard, Global>,
-    said: Said,
     work: Work,
 ) -> Result<(), Fault> {
     let mut driver = driver;
     let Work {
         principal,
         chores,
-        unused: _,
-        silence: _,
-        timeout: _,
-        stream: _,
-        rules,
+        side,
         task,
     } = work;
     match driver.client(principal) {
         Ok(client) => {
-            let causes = Causes::new(heard, rules, said);
+            let causes = Causes::new(side);
             let mut station = Station::new(rt, files, driver, client, notes, causes, chores);
             let done = perform(&mut station, &task);
             let (driver, client) = station.into_parts();
@@ -115,41 +102,14 @@ fn attached<N: DriverNaming + Send + Sync + 'static, R: Machine, F: Disk>(
     }
 }
 
-/// The sockets of the system, with notes of what goes over them, and what is heard there.
-#[derive(Drop)]
-struct Ears<R: Machine> {
-    wire: Watched<Udp<R>, R>,
-    notes: Arc<Notes>,
-    heard: Consumer<Heard, Global>,
-    said: Said,
-}
-
-/// They are made.
-fn watched<R: Machine>(rt: R, work: &Work) -> Result<Ears<R>, AllocError> {
+/// The sockets of the system, and what is noted there.
+fn wire_of<R: Machine>(rt: R) -> Result<(Reported<Udp<R>>, Arc<Notes>), AllocError> {
     let wire = Udp::new(rt.alloc(), rt, SOCKETS)?;
-    let notes = match Arc::new(rt.alloc(), Notes::new()) {
-        Ok(notes) => notes,
-        Err(_) => return Err(AllocError),
+    let Ok(notes) = Arc::new(rt.alloc(), Notes::new()) else {
+        return Err(AllocError);
     };
     let theirs = Arc::try_clone(&notes)?;
-    let reports = Reports::new(rt.alloc(), work.silence)?;
-    let (ear, heard) = both_ends(rt.alloc())?;
-    let wire = Watched::new(
-        wire,
-        theirs,
-        rt,
-        reports,
-        ear,
-        work.stream,
-        work.timeout,
-        work.unused,
-    );
-    Ok(Ears {
-        wire,
-        notes,
-        heard,
-        said: Said::new(rt.alloc())?,
-    })
+    Ok((Reported::new(wire, theirs), notes))
 }
 
 /// A driver starts from these parts.
@@ -161,12 +121,7 @@ fn started<N: DriverNaming + Send + Sync + 'static, R: Machine, F: Disk>(
 ) -> Result<(), Fault>
     requires { AreNamed N.home N.client_ledger N.client_parts N.slot_ledger N.slot_parts N.book parts }
 {
-    let Ears {
-        wire,
-        notes,
-        heard,
-        said,
-    } = match watched(rt, &work) {
+    let (wire, notes) = match wire_of(rt) {
         Ok(made) => made,
         Err(_) => {
             parts.end(&rt);
@@ -175,7 +130,7 @@ fn started<N: DriverNaming + Send + Sync + 'static, R: Machine, F: Disk>(
     };
     let started: Result<OwnDriver<N, R>, _> = Driver::start(rt, rt.alloc(), parts, wire);
     match started {
-        Ok(driver) => attached(rt, files, driver, notes, heard, said, work),
+        Ok(driver) => attached(rt, files, driver, notes, work),
         Err(fault) => Err(Fault::Start(fault)),
     }
 }

@@ -20,6 +20,13 @@ use std::fmt;
 /// The port from which a publisher's driver sends where no other is chosen.
 pub(crate) const PUBLISHER: u16 = 40_000;
 
+/// Where the driver of a subscriber listens as a sender, to which nobody answers: it sends from its endpoints alone. The port is
+/// one that the system chooses, so that no publisher of this host is in its way.
+pub(crate) const NO_PUBLISHER: Address = Address {
+    octets: [127, 0, 0, 1],
+    port: 0,
+};
+
 /// An option of the command line that is at fault.
 #[derive(Clone, Copy)]
 struct BadOption<'a> {

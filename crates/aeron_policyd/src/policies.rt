@@ -1,4 +1,4 @@
-//! What is asked of the policy in a file: the files are read, and `policy_answers` answers.
+//! What is asked of the policy in a file: the files are read, each once, and `policy_answers` answers.
 
 use crate::fault::Fault;
 use crate::files::{bytes_of, give_up};
@@ -11,7 +11,7 @@ use policy_answers::{
     explain, explain_json, find_faults, find_faults_json, refusal, rows_text, show, show_json,
     table_of_all, table_of_all_json, table_of_one, table_of_one_json, try_cases, try_cases_json,
 };
-use policy_query::DecideFault;
+use policy_query::{DecideFault, Document};
 use policy_tools::CasesFault;
 use program_parts::{Disk, Machine};
 use std::process::ExitCode;
@@ -21,9 +21,11 @@ use std::process::ExitCode;
 struct Read<'a> {
     asking: &'a Asking<'a>,
     names: &'a Named,
-    policy: &'a [u8],
-    /// The file that the question names beside the policy's, if it names one: of cases, or of another policy.
-    other: &'a [u8],
+    policy: &'a Document<'a>,
+    /// The file of cases that the question names, if it names one.
+    cases: &'a [u8],
+    /// The other policy that it names, if it does.
+    new: &'a Document<'a>,
     /// The moment at which the policy is asked, in nanoseconds since 1970.
     moment: u64,
     /// Within how many nanoseconds a rule has to end to be warned of, if it is to be.
@@ -139,14 +141,14 @@ impl Read<'_> {
             Asked::Explain { question, near } => self.explained(rt, question, *near),
             Asked::Lint { strict, .. } => self.linted(rt, *strict),
             Asked::Test(_) if json => {
-                try_cases_json(alloc, self.policy, directory, self.other, self.moment)
+                try_cases_json(alloc, self.policy, directory, self.cases, self.moment)
             }
-            Asked::Test(_) => try_cases(alloc, self.policy, directory, self.other, self.moment),
+            Asked::Test(_) => try_cases(alloc, self.policy, directory, self.cases, self.moment),
             Asked::Table { principal } => self.table_json(rt, *principal),
             Asked::Diff(_) if json => {
-                compare_json(alloc, self.policy, self.other, directory, self.moment)
+                compare_json(alloc, self.policy, self.new, directory, self.moment)
             }
-            Asked::Diff(_) => compare(alloc, self.policy, self.other, directory, self.moment),
+            Asked::Diff(_) => compare(alloc, self.policy, self.new, directory, self.moment),
         }
     }
 
@@ -174,7 +176,7 @@ impl Read<'_> {
             return Ok(give_up(rt, &why));
         }
         if let Asked::Diff(path) = &self.asking.asked {
-            if let Some(why) = refusal(alloc, self.other, directory, names.origin(path))? {
+            if let Some(why) = refusal(alloc, self.new, directory, names.origin(path))? {
                 return Ok(give_up(rt, &why));
             }
         }
@@ -187,6 +189,14 @@ fn other_file<'a>(asked: &Asked<'a>) -> Option<&'a str> {
     match asked {
         Asked::Test(path) | Asked::Diff(path) => Some(path),
         _ => None,
+    }
+}
+
+/// The bytes of that file as cases, and as a policy: those of the other kind are none.
+fn by_kind<'a>(asked: &Asked<'_>, bytes: &'a [u8]) -> (&'a [u8], &'a [u8]) {
+    match asked {
+        Asked::Diff(_) => (&[], bytes),
+        _ => (bytes, &[]),
     }
 }
 
@@ -277,11 +287,15 @@ fn read_and_answer<R: Machine, F: Disk>(
         Some(path) => bytes_of(rt, files, path)?,
         None => Vec::new(rt.alloc()),
     };
+    let (cases, new) = by_kind(&asking.asked, other.as_slice());
+    let document = Document::read(rt.alloc(), policy.as_slice())?;
+    let new = Document::read(rt.alloc(), new)?;
     let read = Read {
         asking,
         names: &names,
-        policy: policy.as_slice(),
-        other: other.as_slice(),
+        policy: &document,
+        cases,
+        new: &new,
         moment,
         soon,
     };

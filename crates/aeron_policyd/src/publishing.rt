@@ -1,13 +1,24 @@
 //! `publish`: standard input goes out as messages.
 
-use crate::causes::Other;
 use crate::fault::Fault;
+use crate::replies::Ready;
 use crate::station::{Naks, Station};
-use media_driver::{DriverNaming, OfferFault};
+use channel_uri::Address;
+use media_driver::{DriverNaming, OfferFault, PublicationPositions};
 use message_lines::{Cut, Sent};
 use program_parts::{Disk, Input, Machine, pause};
 use std::alloc::{AllocError, Global};
-use stream_gaps::{NotTaken, Untaken};
+use stream_gaps::{Gap, NotTaken, TakenUp, Untaken};
+
+/// How far looks at the log are apart, in nanoseconds.
+const APART: u64 = 1_000_000;
+
+/// Another address to which a publication's messages go, by a channel of its own.
+#[derive(Drop)]
+pub(crate) struct Other {
+    pub(crate) address: Address,
+    pub(crate) channel: String,
+}
 
 /// What is published, and how long is waited.
 #[derive(Drop)]
@@ -29,26 +40,36 @@ pub(crate) struct Publishing {
 #[derive(Drop)]
 struct Progress {
     registration: u64,
+    session: i32,
     messages: u64,
     bytes: u64,
     position: u64,
     /// Up to which position all that was sent was taken, as far as it is known.
     consumed: u64,
     untaken: Untaken,
+    taken_up: TakenUp,
+    /// How often the stream was taken up again further on than it was left.
+    gaps: u64,
+    /// When the log is looked at next, in nanoseconds.
+    due: u64,
     /// Since when the next message waits, in nanoseconds of the machine's steady clock, and how often it was tried.
     since: Option<u64>,
     waited: u32,
 }
 
 impl Progress {
-    fn new(alloc: Global, registration: u64) -> Progress {
+    fn new(alloc: Global, ready: Ready) -> Progress {
         Progress {
-            registration,
+            registration: ready.registration,
+            session: ready.session.unwrap_or(0),
             messages: 0,
             bytes: 0,
             position: 0,
             consumed: 0,
             untaken: Untaken::new(alloc),
+            taken_up: TakenUp::new(),
+            gaps: 0,
+            due: 0,
             since: None,
             waited: 0,
         }
@@ -62,6 +83,35 @@ impl Progress {
         self.since = None;
         self.waited = 0;
         self.untaken.send(position, self.consumed)
+    }
+
+    /// Whether it is time to look at the log.
+    fn is_due(&mut self, now: u64) -> bool {
+        if now < self.due {
+            return false;
+        }
+        self.due = now.saturating_add(APART);
+        true
+    }
+
+    /// Nobody was there as the stream was announced at a position, if it was: that is as a look which finds nobody.
+    fn announce(&mut self, announced: Option<u64>) {
+        if let Some(position) = announced {
+            if self.taken_up.to.is_none() {
+                let _ = self.taken_up.look(self.session, position, None, u64::MAX);
+            }
+        }
+    }
+
+    /// The log was looked at, and the least that was reported. The gap, where the stream was taken up again further on than it
+    /// was left. Where no subscriber is heard, `consumed` stays as it was.
+    fn look(&mut self, positions: &PublicationPositions, least: u64) -> Option<Gap> {
+        self.consumed = positions.consumed.unwrap_or(self.consumed);
+        let gap = self
+            .taken_up
+            .look(self.session, positions.sent, positions.consumed, least)?;
+        self.gaps = self.gaps.saturating_add(1);
+        Some(gap)
     }
 
     /// What nobody took, if there is any.
@@ -160,24 +210,23 @@ impl<N: DriverNaming + Send + Sync + 'static, R: Machine, F: Disk> Station<N, R,
         Ok(true)
     }
 
-    /// Up to which position all subscribers that are heard have taken the messages, as the log has it. Where none is heard, it
-    /// stays as it was.
-    fn look_at_consumption(&mut self, progress: &mut Progress) {
+    /// Looks at the log: how far the subscribers are, and what they did not get.
+    fn look(&mut self, progress: &mut Progress, asked: &Publishing) -> Result<(), Fault> {
+        // a SETUP that went before the look, and a report that came before it
+        progress.announce(self.notes.take_announced());
         let found = self
             .client
             .publication_positions(&self.rt, progress.registration);
         if let Ok(positions) = found {
-            progress.consumed = positions.consumed.unwrap_or(progress.consumed);
+            let least = match positions.consumed {
+                Some(_) => self.notes.take_reported(),
+                None => u64::MAX,
+            };
+            if let Some(gap) = progress.look(&positions, least) {
+                let _ = eprintln!(self.rt; "{gap}");
+            }
         }
-    }
-
-    /// Looks how far the subscribers are, and says what was heard of them.
-    fn look(&mut self, progress: &mut Progress, asked: &Publishing) -> Result<(), Fault> {
-        self.look_at_consumption(progress);
-        self.listen(&[]);
-        self.look_at_sends(asked.to.as_slice());
-        if asked.fail_on_gap && self.notes.gaps() > 0 {
-            self.listen(&[]);
+        if asked.fail_on_gap && progress.gaps > 0 {
             return Err(Fault::Gap);
         }
         Ok(())
@@ -188,8 +237,7 @@ impl<N: DriverNaming + Send + Sync + 'static, R: Machine, F: Disk> Station<N, R,
         if self.tend()? {
             progress.print(self);
         }
-        let now = self.tended();
-        if self.causes.is_turn(now) {
+        if progress.is_due(self.tended()) {
             self.look(progress, asked)?;
         }
         Ok(())
@@ -247,7 +295,7 @@ impl<N: DriverNaming + Send + Sync + 'static, R: Machine, F: Disk> Station<N, R,
         if let Some(rest) = rest {
             return Err(Fault::NotTaken(rest));
         }
-        if self.notes.gaps() > 0 {
+        if progress.gaps > 0 {
             return Err(Fault::Gap);
         }
         Ok(())
@@ -263,13 +311,14 @@ impl<N: DriverNaming + Send + Sync + 'static, R: Machine, F: Disk> Station<N, R,
 
     /// Publishes standard input. How many messages went is printed, whatever came of the next one.
     pub(crate) fn publish(&mut self, asked: &Publishing) -> Result<(), Fault> {
-        let registration = self.publication(asked.channel.as_str(), asked.stream)?;
-        self.add_destinations(registration, asked.to.as_slice())?;
+        let ready = self.publication(asked.channel.as_str(), asked.stream)?;
+        self.add_destinations(ready.registration, asked.to.as_slice())?;
         let mut input = Input::open(self.rt, asked.by)?;
-        let mut progress = Progress::new(self.rt.alloc(), registration);
+        let mut progress = Progress::new(self.rt.alloc(), ready);
         let offered = self.offer_all(&mut input, &mut progress, asked);
         let lingered = self.linger(&mut progress, asked);
         let looked = self.look(&mut progress, asked);
+        self.say_causes();
         progress.print(self);
         self.outcome(&progress, offered.and(lingered).and(looked))
     }

@@ -5,6 +5,7 @@ use crate::files::bytes_of;
 use driver_script::script::Ended;
 use driver_script::{MayFail, script};
 use policy_answers::{Origin, refusal};
+use policy_query::Document;
 use policy_tools::Directory;
 use program_parts::{Disk, Machine};
 use script_lines::statements::{LIMIT, Said, Statement, Statements};
@@ -20,7 +21,8 @@ fn say_policy<R: Machine>(
     directory: &Directory,
 ) -> Result<(), Fault> {
     let origin = Origin::Script { path, line };
-    if let Some(why) = refusal(rt.alloc(), policy, directory, origin)? {
+    let document = Document::read(rt.alloc(), policy)?;
+    if let Some(why) = refusal(rt.alloc(), &document, directory, origin)? {
         let _ = eprintln!(rt; "{why}");
     }
     Ok(())

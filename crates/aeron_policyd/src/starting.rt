@@ -3,19 +3,17 @@
 ghost use Rattle.driver_core.specs.Soundness.{AreSettings};
 ghost use Rattle.std.specs.Prelude.{IfOk};
 
-use crate::causes::Other;
 use crate::fault::Fault;
 use crate::files::bytes_of;
 use crate::hosting::{Patience, Sources};
 use crate::named::Named;
 use crate::one_client::{Task, Work, with_client};
 use crate::options::{
-    address_in, chooses, control_of, elicitation_of, endpoint_of, owned, peers_of,
+    NO_PUBLISHER, address_in, chooses, control_of, elicitation_of, endpoint_of, owned, peers_of,
     publisher_address, refuse, settings_of,
 };
-use crate::publishing::Publishing;
+use crate::publishing::{Other, Publishing};
 use crate::replies::say;
-use crate::rules::Rules;
 use crate::serving::{Work as Serve, serve_clients};
 use crate::station::Chores;
 use crate::subscribing::Subscribing;
@@ -29,6 +27,7 @@ use service_doors::{AskedBounds, Plan, Serving, Usual, mode_in, place_in};
 use service_records::Request;
 use service_remote::{Offering, Wanted, print_counters, print_order};
 use std::net::{Ipv4Addr, SocketAddrV4, UdpSocket};
+use wire_causes::Side;
 
 /// So many seconds, in nanoseconds.
 fn seconds(count: u64) -> u64 {
@@ -111,7 +110,7 @@ fn begin<R: Machine, F: Disk>(
     files: &F,
     talk: &Talk<'_>,
     settings: Settings,
-    unused: Option<Address>,
+    side: Side,
     task: Task,
 ) -> Result<(), Fault>
     requires { AreSettings settings }
@@ -123,22 +122,10 @@ fn begin<R: Machine, F: Disk>(
     let principal = principal_of(rt, &names, talk.principal)?;
     let peers = peers_of(rt, names.directory.names(), talk.peers)?;
     let chores = chores_of(rt, talk, text, names, settings.client_liveness)?;
-    let rules = Rules::new(
-        rt.alloc(),
-        &policy,
-        principal,
-        peers.as_slice(),
-        talk.channel,
-        talk.stream,
-    )?;
     let work = Work {
         principal,
         chores,
-        unused,
-        silence: settings.destination_timeout,
-        timeout: settings.connection_timeout,
-        stream: talk.stream,
-        rules,
+        side,
         task,
     };
     with_client(*rt, *files, settings, policy, peers.as_slice(), work)
@@ -190,10 +177,12 @@ fn publish<R: Machine, F: Disk>(
     let address = publisher_address(control.or(endpoint_of(talk.channel)?).or(first));
     let settings = settings_for(rt, talk.settings, address)?;
     can_open(rt, settings.send_address)?;
+    let mut side = Side::Sends;
     if let Some(control) = control {
         can_open(rt, control)?;
+        side = Side::Learns;
     }
-    begin(rt, files, talk, settings, None, Task::Publish(publishing))
+    begin(rt, files, talk, settings, side, Task::Publish(publishing))
 }
 
 /// Messages that come are printed.
@@ -231,15 +220,15 @@ fn subscribe<R: Machine, F: Disk>(
     };
     let endpoint = endpoint_of(talk.channel)?;
     let join = elicitation_of(rt, join, endpoint, talk.stream)?;
-    let settings = settings_for(rt, talk.settings, publisher_address(endpoint))?;
+    let mut settings = settings_for(rt, talk.settings, NO_PUBLISHER)?;
+    settings.send_address = NO_PUBLISHER;
     if let Some(endpoint) = endpoint {
         can_open(rt, endpoint)?;
     }
-    let unused = Some(settings.send_address);
     subscribing.join = join;
     subscribing.status_interval = settings.status_interval;
     let task = Task::Subscribe(subscribing);
-    begin(rt, files, talk, settings, unused, task)
+    begin(rt, files, talk, settings, Side::Receives, task)
 }
 
 /// Tries a driver with one client that sends itself a message.
@@ -269,7 +258,7 @@ fn run<R: Machine, F: Disk>(
         files,
         &talk,
         Settings::default(),
-        None,
+        Side::Sends,
         Task::TryOut { tries },
     )?;
     say(rt, "stopped")

@@ -1,19 +1,18 @@
 //! A driver of this process with its one client, and what is done for them beside the messages: the client says that it is
 //! there, the policy's file is read again, and figures are printed, each in its time.
 
-use crate::causes::Causes;
+use crate::causes::{Causes, total};
 use crate::fault::Fault;
 use crate::files::{Unread, file_bytes};
 use crate::named::Named;
-use crate::rules::Rules;
-use crate::watched::Notes;
+use crate::reported::Notes;
 use byte_strings::Text;
 use media_driver::{
-    Client, ClientReply, Driver, DriverNaming, MachineClock, PushFault, ReloadFault,
+    Client, ClientReply, Driver, DriverNaming, MachineClock, Miss, PushFault, ReloadFault,
 };
 use message_lines::Losses;
 use policy_answers::refusal;
-use policy_query::policy_in;
+use policy_query::Document;
 use program_parts::{Disk, Machine, SECOND, report, ticks};
 use std::str;
 use std::sync::Arc;
@@ -73,14 +72,14 @@ pub(crate) struct Station<N: DriverNaming, R: Machine, F: Disk> {
 /// What is wrong with a policy, in the words of `lint`, if anything is.
 fn why_not<R: Machine>(rt: &R, chores: &Chores, bytes: &[u8]) -> Result<Option<Text>, Fault> {
     let origin = chores.names.origin(chores.policy.as_str());
-    Ok(refusal(rt.alloc(), bytes, &chores.names.directory, origin)?)
+    let document = Document::read(rt.alloc(), bytes)?;
+    Ok(refusal(rt.alloc(), &document, &chores.names.directory, origin)?)
 }
 
 /// These bytes are put in force, and what comes of it is printed.
 fn put_in_force<N: DriverNaming + Send + Sync + 'static, R: Machine>(
     rt: &R,
     driver: &mut OwnDriver<N, R>,
-    rules: &mut Rules,
     chores: &Chores,
     bytes: &[u8],
 ) -> Result<(), Fault> {
@@ -91,13 +90,7 @@ fn put_in_force<N: DriverNaming + Send + Sync + 'static, R: Machine>(
     let text = str::from_utf8(bytes).unwrap_or("");
     let names = chores.names.directory.names();
     match driver.reload(names, text) {
-        Ok(_) => {
-            report(rt, "policy in force");
-            match policy_in(rt.alloc(), bytes, names) {
-                Ok(policy) => rules.replace(policy),
-                Err(_) => return Err(Fault::NO_MEMORY),
-            }
-        }
+        Ok(_) => report(rt, "policy in force"),
         Err(ReloadFault::NoMemory) => return Err(Fault::NO_MEMORY),
         Err(ReloadFault::Full) => report(rt, "policy refused: full"),
         Err(ReloadFault::Policy(fault)) => {
@@ -162,17 +155,19 @@ impl<N: DriverNaming + Send + Sync + 'static, R: Machine, F: Disk> Station<N, R,
         ticks(&self.rt)
     }
 
-    /// What was lost so far. What was asked for and sent again is as the driver counts it.
+    /// What was lost so far, as the driver counts it.
     pub(crate) fn losses(&self, naks: Naks) -> Losses {
-        let repairs = self.driver.tallies().repairs();
+        let tallies = self.driver.tallies();
+        let repairs = tallies.repairs();
+        let unsent = total(&tallies, Miss::Unsent);
         Losses {
             naks: match naks {
                 Naks::Heard => repairs.heard,
                 Naks::Asked => repairs.asked,
             },
             resent: repairs.resent,
-            bad: self.notes.bad(),
-            failed: self.notes.failed(),
+            bad: total(&tallies, Miss::Unread),
+            failed: unsent.saturating_add(total(&tallies, Miss::Unheard)),
         }
     }
 
@@ -197,8 +192,7 @@ impl<N: DriverNaming + Send + Sync + 'static, R: Machine, F: Disk> Station<N, R,
 
     /// These bytes are put in force, and what comes of it is printed.
     fn put_in_force(&mut self, bytes: &[u8]) -> Result<(), Fault> {
-        let rules = &mut self.causes.rules;
-        put_in_force(&self.rt, &mut self.driver, rules, &self.chores, bytes)
+        put_in_force(&self.rt, &mut self.driver, &self.chores, bytes)
     }
 
     /// The policy's file is read again where it is time to. Where its bytes are others, they are put in force.
@@ -232,6 +226,7 @@ impl<N: DriverNaming + Send + Sync + 'static, R: Machine, F: Disk> Station<N, R,
         self.tended = now;
         self.keep_alive(now)?;
         self.reload(now)?;
+        self.look_for_causes(now);
         if !self.chores.stats || now < self.due.stats {
             return Ok(false);
         }

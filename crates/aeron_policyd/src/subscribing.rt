@@ -195,9 +195,6 @@ impl<N: DriverNaming + Send + Sync + 'static, R: Machine, F: Disk> Station<N, R,
         for _ in rt.forever() {
             self.take_replies(images, asked, of)?;
             let now = self.now();
-            if self.causes.is_turn(now) {
-                self.listen(images.rows.as_slice());
-            }
             if inbox.is_empty() && self.poll_all(images, inbox, of)? {
                 idle = 0;
             } else {
@@ -258,6 +255,7 @@ impl<N: DriverNaming + Send + Sync + 'static, R: Machine, F: Disk> Station<N, R,
         let mut output = Output::open(rt, self.now(), asked.wait)?;
         let received = self.receive(&mut images, &mut inbox, &mut output, asked, subscription);
         let printed = self.print_rest(&mut inbox, &mut output);
+        self.say_causes();
         self.print_received(&inbox, images.rows.len());
         received?;
         printed?;
