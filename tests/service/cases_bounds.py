@@ -5,7 +5,7 @@ import struct
 import time
 
 import aeron_policyd
-from harness import need, same, until
+from harness import PATIENT, need, same, soon, until
 from raw import (
     BYE,
     DONE,
@@ -59,10 +59,10 @@ def case_bounds_hold_for_all_clients_of_a_principal(room):
         same("one more of the other", (REFUSED, 1011, "bound on publications"), refused(two, publish, 23))
         # what is taken back can be had again, once its log is gone
         one.commanded(lambda client, correlation: command(2, client, correlation, struct.pack("<Q", first)))
-        until("room for one more", lambda: refused(one, publish, 14)[0] != REFUSED, 8)
+        until("room for one more", lambda: refused(one, publish, 14)[0] != REFUSED)
         # and so can what a client had that went
         again.close()
-        until("a counter", lambda: refused(one, count)[0] != REFUSED, 8)
+        until("a counter", lambda: refused(one, count)[0] != REFUSED)
 
 
 def case_bounds_on_the_pages_of_logs(room):
@@ -79,18 +79,27 @@ def case_bounds_on_the_pages_of_logs(room):
         same("a client that was refused goes on", DONE, one.ask(mail())[-1][0])
 
 
+def handed_on(peer, make, *words):
+    """The answer to a command, which is given again for as long as the driver's queue is full."""
+    peer.correlation += 1
+    while True:
+        ((kind, body),) = peer.ask(make(peer.client, peer.correlation, *words))
+        if kind != REFUSED or code_of(body) != 1008:
+            return kind, body
+        time.sleep(0.002)
+
+
 def case_each_door_has_an_equal_part(room):
     """Where no bound is given, no principal can take what another one needs."""
-    room.serve("--each", "2", doors=("p1", "p2", "p3", "p4"))
+    room.serve("--each", "2", *PATIENT, doors=("p1", "p2", "p3", "p4"))
     with Peer(room.at("p1")) as greedy, Peer(room.at("p4")) as modest:
         greedy.enter(), modest.enter()
         got = {}
         for make, most in ((publish, 300), (subscribe, 600), (count, 1100)):
             for number in range(most):
-                greedy.correlation += 1
                 # a reply is an error where the driver itself has no room
                 words = (1000 + number,) if make is not count else ()
-                ((kind, body),) = greedy.ask(make(greedy.client, greedy.correlation, *words))
+                kind, body = handed_on(greedy, make, *words)
                 if kind == REFUSED and code_of(body) in (1011, 1012, 1013, 1014):
                     got[make.__name__] = number
                     break
@@ -124,17 +133,20 @@ def case_correlation_ids_rise(room):
 
 def case_one_that_reads_nothing_is_let_go(room):
     """With a bound on that; one that polls, and one that has nothing to read, stay."""
-    room.serve("--poll-within", "1")
+    # longer than a busy machine holds a reader up
+    within = 2
+    room.serve("--poll-within", str(within))
     with Peer(room.at("p1")) as lazy, Peer(room.at("p2")) as reader, Peer(room.at("p2")) as publisher, Peer(room.at("p1")) as bare:
         for peer in (lazy, reader, publisher, bare):
             peer.enter()
+        subscribed = time.monotonic()
         lazy.registered(subscribe, 10)
         subscription = reader.registered(subscribe, 10)
         publication = publisher.registered(publish, 10)
         source = reader.image()
         lazy.image()
         begun = time.monotonic()
-        while time.monotonic() - begun < 4:
+        while time.monotonic() - begun < within + 3:
             # it asks for other things all the time
             try:
                 lazy.ask(mail())
@@ -144,21 +156,22 @@ def case_one_that_reads_nothing_is_let_go(room):
                 peer.ask(mail())
             reader.ask(poll(subscription, source))
             time.sleep(0.05)
-        took = time.monotonic() - begun
+        end = time.monotonic()
         told = [(code_of(body), words_of(body)) for kind, body in lazy.last + lazy.rest() if kind == BYE]
         same("what it is told", [(1016, "polls nothing")], told)
-        need(0.8 < took < 3, "after", took)
-        until("three clients", lambda: len(room.clients()) == 3)
+        need(end - subscribed > within, "after", end - subscribed)
+        soon(end - begun < within + 2, "after", end - begun)
+        until("three clients", lambda: reader.ask(poll(subscription, source)) and len(room.clients()) == 3)
         same("an offer", TAKEN, publisher.ask(offer(publication, b"x"))[0][0])
         same("a poll", [FRAGMENT, DONE], [kind for kind, _ in reader.ask(poll(subscription, source))])
         bare.ask(mail())
     # a subscriber that waits for a publisher, by the clients
     with aeron_policyd.connect(room.at("p1")) as one, aeron_policyd.connect(room.at("p2")) as two:
         reads = one.subscription("aeron:ipc", 30)
-        same("nothing for 2.5 s", [], reads.poll(wait=2.5))
-        two.publication("aeron:ipc", 30).offer(b"late", wait=1.0)
-        same("what comes then", [b"late"], [message.data for message in reads.poll(wait=1.0)])
-        same("nothing again", [], reads.poll(wait=1.5))
+        same("nothing for so long and more", [], reads.poll(wait=within + 1.5))
+        two.publication("aeron:ipc", 30).offer(b"late", wait=10.0)
+        same("what comes then", [b"late"], [message.data for message in reads.poll(wait=10.0)])
+        same("nothing again", [], reads.poll(wait=within + 0.5))
 
 
 def case_operators_see_what_clients_have(room):
@@ -171,6 +184,6 @@ def case_operators_see_what_clients_have(room):
         wanted = [(one.client, 1, 2, 0, 1), (two.client, 2, 0, 1, 0)]
         words = "client %d of p%d: %d publications, %d subscriptions, %d counters"
         same("the lines", sorted(words % line for line in wanted), lines)
-        status, out, _ = room.call("clients", "--driver", room.at("operator"))
+        status, out, _ = room.order("clients")
         same("what the program prints", (0, 2), (status, len(out.splitlines())))
     until("no client", lambda: room.clients() == [])

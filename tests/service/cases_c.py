@@ -4,7 +4,7 @@ import os
 import shutil
 
 from forger import Forger
-from harness import TOP, LeftOut, need, same
+from harness import PATIENT, TOP, LeftOut, need, same
 
 WARNINGS = ("-std=c99", "-Wall", "-Wextra", "-Werror", "-pedantic")
 SOURCE = os.path.join(TOP, "clients", "c")
@@ -34,7 +34,7 @@ def build(room, compiler, source, *options):
     """Compiles a program with the client: its path."""
     program = "%s/%s.%s" % (room.path, os.path.basename(source), compiler)
     words = [compiler, *WARNINGS, *options, "-I" + SOURCE, "-o", program, source, SOURCE + "/aeron_policyd.c"]
-    status, out, err = room.run(*words, seconds=60)
+    status, out, err = room.run(*words, seconds=300)
     need(status == 0, "the compiler says", out + err)
     return program
 
@@ -44,7 +44,7 @@ def sanitized(room, compiler, source):
     with open(room.path + "/empty.c", "w", encoding="ascii") as file:
         file.write("int main(void)\n{\n    return 0;\n}\n")
     checks = ("-g", "-O1", "-fsanitize=address,undefined", "-fno-sanitize-recover=all")
-    status, _, _ = room.run(compiler, *checks, "-o", room.path + "/empty", room.path + "/empty.c", seconds=60)
+    status, _, _ = room.run(compiler, *checks, "-o", room.path + "/empty", room.path + "/empty.c", seconds=300)
     if status == 0 and room.run(room.path + "/empty")[0] == 0:
         return build(room, compiler, source, *checks)
     room.leave_out("%s has no address and undefined behaviour checks here" % compiler)
@@ -67,20 +67,20 @@ def case_the_example_in_c(room):
 
 
 def case_each_function_in_c(room):
-    room.serve(policy=BUT_P2)
+    room.serve(*PATIENT, policy=BUT_P2)
     program = sanitized(room, compilers()[0], TOP + "/tests/service/check.c")
-    same("check", (0, "all holds\n", ""), room.run(program, room.folder, "5000", seconds=60))
+    same("check", (0, "all holds\n", ""), room.run(program, room.folder, "5000", seconds=300))
 
 
 def case_each_function_in_c_under_valgrind(room):
     if not shutil.which("valgrind"):
         raise LeftOut("valgrind is not there")
-    room.serve(policy=BUT_P2)
+    room.serve(*PATIENT, policy=BUT_P2)
     program = build(room, compilers()[0], TOP + "/tests/service/check.c", "-g", "-O1")
     words = ("valgrind", "-q", "--error-exitcode=9", "--leak-check=full", "--errors-for-leak-kinds=all", program)
-    same("check", (0, "all holds\n", ""), room.run(*words, room.folder, "500", seconds=90))
+    same("check", (0, "all holds\n", ""), room.run(*words, room.folder, "500", seconds=300))
     example = build(room, compilers()[0], SOURCE + "/example.c", "-g")
-    status, _, err = room.run(*words[:-1], example, room.folder, seconds=60)
+    status, _, err = room.run(*words[:-1], example, room.folder, seconds=300)
     # this policy allows more, but not the desk to publish
     same("the example", (0, ""), (status, err))
 
@@ -89,6 +89,6 @@ def case_a_server_that_forges_in_c(room):
     program = sanitized(room, compilers()[0], TOP + "/tests/service/check.c")
     forger = Forger(room.path + "/forged.sock", 11)
     try:
-        same("check", (0, "", ""), room.run(program, room.path + "/forged.sock", "forged", "300", seconds=90))
+        same("check", (0, "", ""), room.run(program, room.path + "/forged.sock", "forged", "300", seconds=300))
     finally:
         forger.close()

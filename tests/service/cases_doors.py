@@ -13,7 +13,7 @@ from raw import Peer
 ENTER = """
 import socket, sys
 peer = socket.socket(socket.AF_UNIX, socket.SOCK_STREAM)
-peer.settimeout(5)
+peer.settimeout(60)
 try:
     peer.connect(sys.argv[1])
     print("in" if peer.recv(64)[4:6] == b"\\x01\\x01" else "refused")
@@ -140,7 +140,7 @@ def case_a_path_of_two_hundred_bytes(room):
     folder = room.path + "/" + "g" * (107 - len("/operator.sock") - len(room.path) - 1)
     room.serve(doors=("p1",), folder=folder)
     same("how long the path is", 107, len(folder + "/operator.sock"))
-    same("its clients", [], aeron_policyd.clients(folder + "/operator.sock"))
+    same("its clients", [], room.asked("clients", folder + "/operator.sock"))
 
 
 def case_doors_that_are_none(room):
@@ -171,11 +171,11 @@ def case_a_door_that_is_named_by_its_path(room):
     with aeron_policyd.connect(path) as one, aeron_policyd.connect(room.at("p2")) as two:
         same("who they are", (1, 2), (one.principal, two.principal))
         reads = two.subscription("aeron:ipc", 10)
-        one.publication("aeron:ipc", 10).offer(b"by the path", wait=1.0)
-        same("what is read", [b"by the path"], [message.data for message in reads.poll(wait=1.0)])
+        one.publication("aeron:ipc", 10).offer(b"by the path", wait=10.0)
+        same("what is read", [b"by the path"], [message.data for message in reads.poll(wait=10.0)])
     same("a socket of p1 in the folder", False, os.path.exists(room.at("p1")))
-    aeron_policyd.stop(room.at("operator"))
-    same("status of the driver", 0, room.ended(room.driver, 5))
+    room.asked("stop")
+    same("status of the driver", 0, room.ended(room.driver))
     same("what is left", (False, True), (os.path.exists(path), os.path.isdir(room.path + "/of_p1")))
 
 

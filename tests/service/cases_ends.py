@@ -10,7 +10,7 @@ import threading
 import time
 
 import aeron_policyd
-from harness import ALLOW, HERE, Failed, need, said, same, until
+from harness import ALLOW, HERE, PATIENT, Failed, need, said, same, soon, until
 from raw import (
     BYE,
     DONE,
@@ -32,7 +32,9 @@ from raw import (
     words_of,
 )
 
-SHORT = ("--setting", "client-liveness=1500000000")
+# How long clients may be silent where that is waited for, in seconds: longer than a busy machine holds one up.
+LIVENESS = 4.0
+SHORT = ("--setting", "client-liveness=%d" % (LIVENESS * 1e9))
 
 WAITING = """
 import sys
@@ -58,8 +60,8 @@ def waiting(room, request):
 
 
 def case_a_client_is_killed_in_a_wait(room):
-    """Its place is free within a tenth of a second. A busy machine may take longer now and then, so most have to be."""
-    room.serve("--each", "1")
+    """Its place is free within a tenth of a second. A busy machine may take longer now and then, so four of five have to be."""
+    room.serve("--each", "1", *PATIENT)
     times = []
     with Peer(room.at("p1")) as one:
         one.enter()
@@ -73,7 +75,7 @@ def case_a_client_is_killed_in_a_wait(room):
             until("a place for another client", lambda: told(room.at("p2")) == [])
             times.append(int((time.monotonic() - begun) * 1000))
             until("no client of p2", lambda: len(room.clients()) == 1)
-    need(sorted(times)[2] < 100 and max(times) < 700, "a place is free after so many ms:", times)
+    soon(sorted(times)[3] < 100 and max(times) < 700, "a place is free after so many ms:", times)
     until("no client", lambda: room.clients() == [])
 
 
@@ -110,18 +112,18 @@ def case_a_driver_is_killed(room):
         time.sleep(0.2)
         first.kill()
         first.wait()
-        thread.join(5)
+        thread.join(60)
         need(len(ends) == 1 and ends[0].code is None and str(ends[0]), "the client in Python ends with", ends)
     for process in (reader, writer):
-        same("status", 1, room.ended(process, 5))
+        same("status", 1, room.ended(process))
         need(said(process.err).strip().splitlines()[-1].startswith("aeron_policyd: "), "no word in", said(process.err))
     os.close(held)
     need(os.path.exists(room.at("p1")), "the sockets of a killed driver are left behind")
     room.serve()
     with aeron_policyd.connect(room.at("p1")) as one, aeron_policyd.connect(room.at("p2")) as two:
         reads = two.subscription("aeron:ipc", 10)
-        one.publication("aeron:ipc", 10).offer(b"again", wait=1.0)
-        same("what the next driver carries", [b"again"], [message.data for message in reads.poll(wait=1.0)])
+        one.publication("aeron:ipc", 10).offer(b"again", wait=10.0)
+        same("what the next driver carries", [b"again"], [message.data for message in reads.poll(wait=10.0)])
 
 
 def case_a_driver_stops(room):
@@ -131,15 +133,17 @@ def case_a_driver_stops(room):
     with Peer(room.at("p1")) as one, Peer(room.at("p1")) as other:
         one.enter(), other.enter()
         other.send(mail(1000))
-        status, _, err = room.call("stop", "--driver", room.at("operator"))
+        status, _, err = room.order("stop")
         same("status of stop", (0, ""), (status, err))
         for peer in (one, other):
             last = peer.rest()[-1:]
+            # a connection has half a second to say it
+            soon(BYE in [kind for kind, _ in last], "no last word but", last)
             same("the last word", [(BYE, 1010, "stopped")], [(kind, code_of(body), words_of(body)) for kind, body in last])
-    same("status of the driver", 0, room.ended(driver, 5))
-    same("status of the subscriber", 1, room.ended(reader, 5))
+    same("status of the driver", 0, room.ended(driver))
+    same("status of the subscriber", 1, room.ended(reader))
     same("what is left in the folder", [], os.listdir(room.folder))
-    status, _, err = room.call("stop", "--driver", room.at("operator"))
+    status, _, err = room.order("stop")
     same("another stop", (1, "aeron_policyd: no driver serves there\n"), (status, err))
 
 
@@ -165,12 +169,14 @@ def case_a_client_ends_the_driver(room):
             same("the denial", "denied by rule 1 in policy 1", denied.text)
         two.keepalive()
         one.terminate()
-        same("status of the driver", 0, room.ended(driver, 5))
+        same("status of the driver", 0, room.ended(driver))
         try:
             while True:
                 two.keepalive()
                 time.sleep(0.01)
         except aeron_policyd.Ended as end:
+            # its connection has half a second to say it
+            soon(end.code is not None, "no last word:", end)
             same("what the other client is told", (1010, "stopped"), (end.code, end.text))
     need(not os.path.exists(room.at("p1")), "a socket is left")
 
@@ -179,28 +185,30 @@ def case_a_silent_client_is_let_go(room):
     room.serve(*SHORT)
     with Peer(room.at("p1")) as silent, Peer(room.at("p2")) as alive, Peer(room.at("p2")) as heard:
         silent.enter(), alive.enter(), heard.enter()
-        same("the liveness", 1_500_000_000, silent.liveness)
+        same("the liveness", LIVENESS * 1e9, silent.liveness)
         silent.registered(subscribe)
         publication = alive.registered(publish)
         same("an offer", TAKEN, alive.ask(offer(publication, b"x", wait=1000))[0][0])
         begun = time.monotonic()
-        while time.monotonic() - begun < 2.5:
+        while time.monotonic() - begun < LIVENESS + 1:
             # any request is a sign of life
             alive.ask(mail())
             heard.ask(record(LIST))
             time.sleep(0.3)
         last = silent.rest()
         same("what it is told", [(BYE, 1004, "client gone")], [(kind, code_of(body), words_of(body)) for kind, body in last])
-        ((kind, body),) = alive.ask(offer(publication, b"x"))
+        # its connection ends before it is put away, with its subscription
+        until("two clients are left", lambda: alive.ask(mail()) and heard.ask(mail()) and len(room.clients()) == 2)
+        until("no offer is taken", lambda: alive.ask(offer(publication, b"x"))[0][0] == REFUSED)
+        ((kind, body),) = alive.ask(offer(publication, b"x", seen=1))
         same("an offer, as its subscription is gone", (REFUSED, -1), (kind, code_of(body)))
-        same("how many clients are left", 2, len(room.clients()))
 
 
 def case_one_that_sends_and_never_reads(room):
     room.serve(*SHORT)
-    with Peer(room.at("p1"), timeout=0.2) as deaf, Peer(room.at("p2")) as other:
+    with Peer(room.at("p1")) as deaf, Peer(room.at("p2")) as other:
         deaf.enter()
-        other.enter()
+        deaf.socket.settimeout(0.5)
         sent = 0
         try:
             while True:
@@ -208,19 +216,20 @@ def case_one_that_sends_and_never_reads(room):
         except socket.timeout:
             pass
         need(sent > 100_000, "it sent", sent, "bytes")
+        other.enter()
         subscription, publication = other.registered(subscribe, 20), other.registered(publish, 20)
         source = other.image()
         begun, count, slowest = time.monotonic(), 0, 0.0
-        while time.monotonic() - begun < 3 or count < 100:
+        while time.monotonic() - begun < LIVENESS + 1 or count < 100:
             at = time.monotonic()
             same("an offer beside it", TAKEN, other.ask(offer(publication, b"x"))[0][0])
             same("a poll beside it", [FRAGMENT, DONE], [kind for kind, _ in other.ask(poll(subscription, source))])
             slowest = max(slowest, time.monotonic() - at)
             count += 1
-            need(time.monotonic() - begun < 30, "only", count, "rounds")
-        need(slowest < 1, "a round beside it took", slowest)
-        until("it is gone", lambda: len(room.clients()) == 1)
-        deaf.socket.settimeout(5)
+            soon(time.monotonic() - begun < 30, "only", count, "rounds")
+        soon(slowest < 1, "a round beside it took", slowest)
+        until("it is gone", lambda: other.ask(mail()) and len(room.clients()) == 1)
+        deaf.socket.settimeout(60)
         answers = []
         try:
             answers = deaf.rest()
@@ -270,12 +279,14 @@ def case_one_that_subscribes_and_never_polls(room):
         ((kind, body),) = publisher.ask(offer(held, b"x", seen=refusals, wait=300))
         same("still held up", (REFUSED, -2), (kind, code_of(body)))
         lazy.close()
-        same("its stream goes on", TAKEN, publisher.ask(offer(held, b"x", seen=refusals + 1, wait=1000))[0][0])
+        ((kind, body),) = publisher.ask(offer(held, b"x", seen=refusals + 1, wait=1000))
+        soon((kind, code_of(body)) != (REFUSED, -2), "it is held up for a second more")
+        same("its stream goes on", TAKEN, kind)
 
 
 def case_what_was_sent_before_the_end_is_done(room):
     """A client may send and close: its offers are in the log all the same."""
-    room.serve("--setting", "linger=300000000")
+    room.serve("--setting", "linger=2000000000")
     with Peer(room.at("p2")) as two:
         two.enter()
         subscription = two.registered(subscribe)
@@ -321,7 +332,7 @@ def case_mail_that_nobody_took(room):
         time.sleep(0.2)
         for peer in coming:
             same("a reply, and how many were lost", [(REPLY, 0), (DONE, 1)],
-                 [(kind, struct.unpack_from("<I", body)[0]) for kind, body in peer.ask(mail(500))])
+                 [(kind, struct.unpack_from("<I", body)[0]) for kind, body in peer.first_mail()])
             peer.close()
         until("no client", lambda: room.clients() == [])
 
@@ -333,8 +344,8 @@ def case_replies_that_find_no_room_are_counted(room):
         ask_for_errors(one, 300)
         # once the driver has taken all of them
         two.registered(subscribe)
-        first = one.ask(mail(1000))
+        first = one.first_mail()
         same("how many are kept, and lost before them", (256, 0), (len(first) - 1, struct.unpack_from("<Q", first[0][1])[0]))
-        one.send(subscribe(one.client, 301) + mail(1000))
-        answers = one.answer() + one.answer()
-        same("how many were lost", (REPLY, 44), (answers[1][0], struct.unpack_from("<Q", answers[1][1])[0]))
+        same("a command", [DONE], [kind for kind, _ in one.ask(subscribe(one.client, 301))])
+        kind, body = one.first_mail()[0]
+        same("how many were lost", (REPLY, 44), (kind, struct.unpack_from("<Q", body)[0]))

@@ -9,7 +9,7 @@ import time
 
 import aeron_policyd
 from forger import Forger
-from harness import ALLOW, TOP, Failed, LeftOut, need, said, same, until
+from harness import ALLOW, TOP, Failed, LeftOut, need, same, soon, until
 
 SOURCE = os.path.join(TOP, "clients", "python")
 PRICES = "examples/serving/policy.toml"
@@ -44,7 +44,7 @@ def case_pip_installs_it_with_no_network(room):
     shutil.copytree(SOURCE, room.path + "/source")
     place = room.path + "/place"
     words = ("-m", "pip", "install", "-q", "--no-index", "--disable-pip-version-check", "--target", place, room.path + "/source")
-    status, _, err = room.run(sys.executable, *words, seconds=90)
+    status, _, err = room.run(sys.executable, *words, seconds=300)
     need(status == 0, "pip says", err)
     same("what is installed", ["aeron_policyd", "aeron_policyd-1.0.0.dist-info"], sorted(os.listdir(place)))
     code = "import aeron_policyd; print(aeron_policyd.__file__)"
@@ -77,8 +77,10 @@ def case_what_calls_raise(room):
                 need(refused.may_pass, "back pressure may pass")
                 break
         raised(aeron_policyd.BackPressure, publication.offer, b"x", wait=0.3)
-        need(0.3 < time.monotonic() - begun < 10, "the wait took", time.monotonic() - begun)
-        need(len(reads.poll(limit=1000)) > 20, "what was taken is there")
+        took = time.monotonic() - begun
+        need(took > 0.3, "the wait took", took)
+        soon(took < 10, "the wait took", took)
+        need(len(reads.poll(limit=1000, wait=10.0)) > 20, "what was taken is there")
         publication.close()
         raised(aeron_policyd.Closed, publication.offer, b"x")
         same("an id", True, one.client != two.client)
@@ -102,10 +104,10 @@ def case_sources_come_and_go(room):
         need(len({publication.session for publication in publications}) == 5, "five sessions")
         for number, publication in enumerate(publications):
             for place in range(20):
-                publication.offer(b"%d %d" % (number, place), wait=1.0)
+                publication.offer(b"%d %d" % (number, place), wait=10.0)
         got = {}
         while sum(map(len, got.values())) < 100:
-            messages = reads.poll(limit=3, wait=1.0)
+            messages = reads.poll(limit=3, wait=10.0)
             need(messages, "after", sum(map(len, got.values())), "messages nothing comes")
             for message in messages:
                 got.setdefault(message.source, []).append(message.data)
@@ -116,11 +118,13 @@ def case_sources_come_and_go(room):
         for publication in publications[1:]:
             publication.close()
         until("one image is left", lambda: reads.poll() == [] and len(reads.images) == 1)
-        publications[0].offer(b"still", wait=1.0)
-        same("the one that is left", [b"still"], [message.data for message in reads.poll(wait=1.0)])
+        publications[0].offer(b"still", wait=10.0)
+        same("the one that is left", [b"still"], [message.data for message in reads.poll(wait=10.0)])
         begun = time.monotonic()
         same("nothing", [], reads.poll(wait=0.3))
-        need(0.25 < time.monotonic() - begun < 2, "a wait of 0.3 s took", time.monotonic() - begun)
+        took = time.monotonic() - begun
+        need(took > 0.25, "a wait of 0.3 s took", took)
+        soon(took < 2, "a wait of 0.3 s took", took)
 
 
 def case_many_messages_with_a_slow_reader(room):
@@ -139,12 +143,12 @@ def case_many_messages_with_a_slow_reader(room):
     ready = threading.Event()
     thread = threading.Thread(target=read)
     thread.start()
-    need(ready.wait(10), "no reader")
+    need(ready.wait(60), "no reader")
     with aeron_policyd.connect(room.at("p1")) as one:
         publication = one.publication("aeron:ipc", 10)
-        offered = publication.offer_all(messages, wait=10.0)
+        offered = publication.offer_all(messages, wait=60.0)
         same("what was taken", (len(messages), None), (offered.taken, offered.refusal))
-        thread.join(20)
+        thread.join(60)
     need(got == messages, "the messages differ:", len(got), "came")
 
 
@@ -154,8 +158,8 @@ def case_positions_in_python(room):
     with aeron_policyd.connect(room.at("p1")) as one, aeron_policyd.connect(room.at("p2")) as two:
         reads, publication = two.subscription("aeron:ipc", 10), one.publication("aeron:ipc", 10)
         for words in (b"bid 99", b"ask 101", b"ask 102"):
-            publication.offer(words, wait=1.0)
-        same("the first", [b"bid 99"], [message.data for message in reads.poll(limit=1, wait=1.0)])
+            publication.offer(words, wait=10.0)
+        same("the first", [b"bid 99"], [message.data for message in reads.poll(limit=1, wait=10.0)])
         (image,) = reads.images
         written = publication.positions()
         same("the publication", aeron_policyd.PublicationPositions(192, 64 + 32_768, 0, None, True), written)
@@ -171,25 +175,25 @@ def case_a_reload_in_python(room):
     room.serve()
     with aeron_policyd.connect(room.at("p1")) as one, aeron_policyd.connect(room.at("p2")) as two:
         reads, publication = two.subscription("aeron:ipc", 10), one.publication("aeron:ipc", 10)
-        publication.offer(b"one", wait=1.0)
-        same("before", [b"one"], [message.data for message in reads.poll(wait=1.0)])
+        publication.offer(b"one", wait=10.0)
+        same("before", [b"one"], [message.data for message in reads.poll(wait=10.0)])
         deny = '\n[[rule]]\nname = "p2 may not"\nprincipal = "p2"\nact = "%s"\nchannel = "*"\nallow = false\n'
         room.policy(ALLOW + deny % "receive")
-        need("in force" in aeron_policyd.reload(room.at("operator")), "no reload")
-        publication.offer(b"two", wait=1.0)
-        same("the denial", (1, 2), (lambda d: (d.rule, d.policy))(raised(aeron_policyd.Denied, reads.poll, wait=1.0)))
+        need("in force" in room.asked("reload"), "no reload")
+        publication.offer(b"two", wait=10.0)
+        same("the denial", (1, 2), (lambda d: (d.rule, d.policy))(raised(aeron_policyd.Denied, reads.poll, wait=10.0)))
         room.policy(ALLOW)
-        aeron_policyd.reload(room.at("operator"))
-        same("the place was kept", [b"two"], [message.data for message in reads.poll(wait=1.0)])
+        room.asked("reload")
+        same("the place was kept", [b"two"], [message.data for message in reads.poll(wait=10.0)])
         room.policy(ALLOW + deny % "image")
-        aeron_policyd.reload(room.at("operator"))
+        room.asked("reload")
         until("no image", lambda: reads.poll() == [] and reads.images == [])
         raised(aeron_policyd.NoSubscriber, publication.offer, b"three")
         room.policy(ALLOW)
-        aeron_policyd.reload(room.at("operator"))
-        publication.offer(b"four", wait=2.0)
-        same("from then on", [b"four"], [message.data for message in reads.poll(wait=1.0)])
-        same("the clients", 2, len(aeron_policyd.clients(room.at("operator"))))
+        room.asked("reload")
+        publication.offer(b"four", wait=10.0)
+        same("from then on", [b"four"], [message.data for message in reads.poll(wait=10.0)])
+        same("the clients", 2, len(room.clients()))
 
 
 def case_a_server_that_forges_in_python(room):

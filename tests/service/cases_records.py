@@ -6,7 +6,7 @@ import socket
 import struct
 import time
 
-from harness import TOP, need, same, until
+from harness import NOTHING_ASKED, TOP, TRIES, need, same, until
 from raw import (
     BYE,
     DONE,
@@ -94,8 +94,9 @@ def requests_of_a_session():
 
 def talk(room, make):
     """Sends the bytes that `make` gives for a client id, and reads up to the end: the answers."""
-    with Peer(room.at("p1"), timeout=5) as peer:
-        peer.enter()
+    with Peer(room.at("p1")) as peer:
+        # those before it may still be leaving
+        peer.enter(60)
         try:
             peer.send(make(peer.client))
             peer.socket.shutdown(socket.SHUT_WR)
@@ -232,12 +233,25 @@ def case_a_record_is_too_long(room):
         answers = talk(room, lambda client: struct.pack("<II", size, OFFER))
         same("a length of %d" % size, [(BYE, 8, "too long")], [(kind, code_of(body), words_of(body)) for kind, body in answers])
     # the longest is a record
-    with Peer(room.at("p1"), timeout=20) as peer:
+    with Peer(room.at("p1")) as peer:
         peer.enter()
         ((kind, body),) = peer.ask(offer(1, b"x" * (longest - 20)))
         same("the longest record", (REFUSED, -4), (kind, code_of(body)))
         same("the driver goes on", DONE, peer.ask(mail())[-1][0])
     need(driver.poll() is None, "the driver ended")
+
+
+def asked_in_pieces(room, request):
+    """What answers an operator who sends a request a byte at a time."""
+    with Peer(room.at("operator")) as operator:
+        try:
+            for byte in request:
+                operator.send(bytes((byte,)))
+                time.sleep(0.001)
+        except OSError:
+            # the driver may have ended it before all was sent
+            pass
+        return [(kind, code_of(body), words_of(body)) for kind, body in operator.rest()]
 
 
 def case_records_come_in_pieces(room):
@@ -251,11 +265,14 @@ def case_records_come_in_pieces(room):
         peer.send((mail() + record(LIST)) * 2000)
         for _ in range(4000):
             same("many at once", [DONE], [kind for kind, _ in peer.answer()])
-    with Peer(room.at("operator")) as operator:
-        for byte in record(STATUS):
-            operator.send(bytes((byte,)))
-            time.sleep(0.001)
-        same("an operator's request in pieces", [DONE], [kind for kind, _ in operator.answer()])
+    # STATUS has a line for each client that is there, and the one above may still be leaving
+    until("no client", lambda: room.clients() == [])
+    for _ in range(TRIES):
+        answers = asked_in_pieces(room, record(STATUS))
+        # an operator who is held up for 200 ms before a byte is told that it asks for nothing
+        if answers != [(BYE, *NOTHING_ASKED)]:
+            break
+    same("an operator's request in pieces", [(DONE, 0, "")], answers)
 
 
 def case_forged_bytes(room):
@@ -277,7 +294,7 @@ def case_forged_bytes(room):
             watched.look("forged bytes")
     check_calm(room, driver, "forged bytes")
     for number in range(50):
-        with Peer(room.at("operator"), timeout=5) as operator:
+        with Peer(room.at("operator")) as operator:
             data = chance.randbytes(chance.randrange(1, 80))
             if data[:4] != b"\4\0\0\0":
                 try:

@@ -1,6 +1,7 @@
 """Processes that talk, and what the policy says of it."""
 
 import os
+import random
 import shutil
 import signal
 import socket
@@ -8,7 +9,7 @@ import struct
 import threading
 import time
 
-from harness import ALLOW, TOP, Failed, need, said, same, until
+from harness import ALLOW, PATIENT, TOP, Failed, need, said, same, soon, until
 from raw import (
     DONE,
     FRAGMENT,
@@ -72,6 +73,8 @@ def case_the_tutorial(room):
     same("what the monitor reads", "", out)
     need("aeron_policyd: denied by default in policy 1" in err.splitlines(), "no denial in", err)
     same("status of the reload", 0, room.run("sh", "reload.sh", cwd=where, env=paths)[0])
+    # the desk may still be leaving, and what is published meanwhile would be its
+    until("no client", lambda: room.clients() == [])
     monitor = room.start("sh", "monitor.sh", cwd=where, env=paths)
     same("status of the gateway", 0, room.run("sh", "gateway.sh", cwd=where, env=paths)[0])
     same("status of the monitor", 0, room.ended(monitor))
@@ -166,14 +169,21 @@ def case_session_byte_by_byte(room):
     room.serve("--setting", "first-session=7", policy=PRICES)
     records = session(os.path.join(TOP, "tests", "service", "session.txt"))
     need(len(records) > 30, "there are", len(records), "records")
-    peers = {}
+    peers, asked = {}, {}
     for who, sent, words, data in records:
         if who not in peers:
             peers[who] = Peer(room.at(who))
         if sent:
             peers[who].send(data)
+            asked[who] = data
             continue
         got = peers[who].receive()
+        for _ in range(60):
+            # a busy driver may have nothing within the wait of a POLL or of MAIL, so that is asked again
+            if got != (DONE, b"\0\0\0\0") or not words.startswith(("FRAGMENT", "REPLY")):
+                break
+            peers[who].send(asked[who])
+            got = peers[who].receive()
         need(got is not None, "the end in place of", who, words)
         same("%s %s" % (who, words), data.hex(), struct.pack("<II", 4 + len(got[1]), got[0]).hex() + got[1].hex())
     for peer in peers.values():
@@ -201,7 +211,7 @@ def case_a_reload_cuts_a_reader_off(room):
         source = two.image()
         same("an offer", TAKEN, one.ask(offer(publication, b"before", wait=1000))[0][0])
         room.policy(WITHOUT)
-        status, out, _ = room.call("reload", "--driver", room.at("operator"))
+        status, out, _ = room.order("reload")
         same("the reload", (0, "policy 2 in force"), (status, out.split("\n")[0]))
         gone = struct.pack("<IQQi", 0x0F05, source, subscription, 10)
         until("ON_UNAVAILABLE_IMAGE", lambda: gone in two.replies(100))
@@ -213,12 +223,12 @@ def case_a_reload_cuts_a_reader_off(room):
         same("an offer after it", (REFUSED, -1, "no subscriber"), (kind, code_of(body), words_of(body)))
         # a policy with a fault changes nothing
         room.policy("version = 9\n")
-        status, out, err = room.call("reload", "--driver", room.at("operator"))
+        status, out, err = room.order("reload")
         same("the fault", (1, ""), (status, out))
         need(":1:1: version = 9: wanted 1 or 2; see: aeron_policyd lint " in err, err)
         same("a subscription after the fault", "denied by default in policy 2", two.commanded(subscribe, 12)[20:].decode())
         room.policy(ALLOW)
-        room.call("reload", "--driver", room.at("operator"))
+        room.order("reload")
         same("the image again", source, two.image())
         same("an offer again", TAKEN, one.ask(offer(publication, b"after", seen=1, wait=1000))[0][0])
         answer = two.ask(poll(subscription, source, wait=1000))
@@ -242,7 +252,7 @@ def case_a_reload_says_what_it_changes(room):
 
     def reload(policy):
         room.policy(policy)
-        return room.call("reload", "--driver", room.at("operator"))
+        return room.order("reload")
 
     same("a reload", (0, "policy 2 in force\n" + differs(room, ALLOW, WITHOUT), ""), reload(WITHOUT))
     same("the same text", (0, "policy 3 in force\nno difference\n", ""), reload(WITHOUT))
@@ -259,10 +269,11 @@ def case_a_policy_that_changes_on_disk(room):
         source = two.image()
         room.policy(WITHOUT)
         gone = struct.pack("<IQQi", 0x0F05, source, subscription, 10)
-        until("ON_UNAVAILABLE_IMAGE", lambda: gone in two.replies(100), 5)
-        until("the line", lambda: "policy 2 in force" in said(driver.err).splitlines(), 5)
+        _, first = until("ON_UNAVAILABLE_IMAGE", lambda: gone in two.replies(100))
+        until("the line", lambda: "policy 2 in force" in said(driver.err).splitlines())
         room.policy("version = 9\n")
-        until("the fault", lambda: ":1:1: version = 9: wanted 1 or 2; see: aeron_policyd lint " in said(driver.err), 5)
+        _, second = until("the fault", lambda: ":1:1: version = 9: wanted 1 or 2; see: aeron_policyd lint " in said(driver.err))
+        soon(first < 5 and second < 5, "a file is read again after", first, second)
         same("a subscription after it", "denied by default in policy 2", two.commanded(subscribe, 12)[20:].decode())
 
 
@@ -330,28 +341,38 @@ def case_positions_of_a_log(room):
         refused("a publication that is gone", one, publication_positions(publication))
 
 
-def free_port():
-    """A port that nobody receives by."""
-    with socket.socket(socket.AF_INET, socket.SOCK_DGRAM) as probe:
-        probe.bind(("127.0.0.1", 0))
-        return probe.getsockname()[1]
+def free_ports(count):
+    """So many ports that nobody receives by, below those that the system gives to whoever asks for any."""
+    found = []
+    for port in random.sample(range(10_000, 20_000), 1_000):
+        with socket.socket(socket.AF_INET, socket.SOCK_DGRAM) as probe:
+            try:
+                probe.bind(("127.0.0.1", port))
+                found.append(port)
+            except OSError:
+                pass
+        if len(found) == count:
+            return found
+    raise Failed("no port is free")
 
 
 def case_positions_over_datagrams(room):
     """What the receiver that is heard has taken, and what the subscription has of it."""
-    room.serve("--setting", "send-address=127.0.0.1:%d" % free_port())
-    channel = "aeron:udp?endpoint=127.0.0.1:%d" % free_port()
+    send, receive = free_ports(2)
+    room.serve("--setting", "send-address=127.0.0.1:%d" % send)
+    channel = "aeron:udp?endpoint=127.0.0.1:%d" % receive
     with Peer(room.at("p1")) as one, Peer(room.at("p2")) as two:
         one.enter(), two.enter()
         subscription, publication = two.registered(subscribe, 10, channel), one.registered(publish, 10, channel)
         source = two.image()
+        until("the receiver is heard", lambda: one.ask(publication_positions(publication))[0][1][32:] == b"\3\0\0\0")
         for words in (b"bid 99", b"ask 101"):
             same("an offer", TAKEN, one.ask(offer(publication, words, wait=1000))[0][0])
         seen = struct.pack("<QQQ", 0, 0, 128)
-        until("all is received", lambda: two.ask(image_positions(subscription, source)) == [(IMAGE_IS, seen)], 5)
+        until("all is received", lambda: two.ask(image_positions(subscription, source)) == [(IMAGE_IS, seen)])
         same("the fragments", 3, len(two.ask(poll(subscription, source))))
         taken = struct.pack("<QQQQI", 128, 128 + 32_768, 128, 128, 3)
-        until("all is taken", lambda: one.ask(publication_positions(publication)) == [(PUBLICATION_IS, taken)], 5)
+        until("all is taken", lambda: one.ask(publication_positions(publication)) == [(PUBLICATION_IS, taken)])
 
 
 def parts_of(answer):
@@ -400,7 +421,7 @@ def case_several_sources_by_one_poll(room):
         same("65 pairs", (REFUSED, 7, "malformed request"), (kind, code_of(body), words_of(body)))
         # without rights
         room.policy(WITHOUT)
-        room.call("reload", "--driver", room.at("operator"))
+        room.order("reload")
         until("the reload", lambda: parts_of(two.ask(poll_all(pairs[:1]))) == [[0, [], closed], (DONE, 1)])
 
 
@@ -416,20 +437,24 @@ def case_one_wait_for_several_sources(room):
             pairs.append((subscription, two.image()))
         begun = time.monotonic()
         same("nothing comes", [(DONE, 0)], parts_of(two.ask(poll_all(pairs, wait=300))))
-        need(0.25 < time.monotonic() - begun < 2, "a wait of 0.3 s took", time.monotonic() - begun)
+        took = time.monotonic() - begun
+        need(took > 0.25, "a wait of 0.3 s took", took)
+        soon(took < 2, "a wait of 0.3 s took", took)
         for place in (4, 0, 2):
+            asked = time.monotonic()
             two.send(poll_all(pairs, wait=1000))
             time.sleep(0.05)
             begun = time.monotonic()
             words = b"for %d" % place
             same("an offer", TAKEN, one.ask(offer(publications[place], words))[0][0])
+            soon(time.monotonic() - asked < 0.9, "it is offered after", time.monotonic() - asked)
             same("what comes", [[place, [words]], (DONE, 1)], parts_of(two.answer()))
-            need(time.monotonic() - begun < 0.5, "it came after", time.monotonic() - begun)
+            soon(time.monotonic() - begun < 0.5, "it came after", time.monotonic() - begun)
 
 
 def case_one_subscriber_of_many_sources(room):
     """Of more than one request names, and of no more messages than are wanted."""
-    room.serve("--publications", "80", "--pages", "8000", "--setting", "arena-pages=8192")
+    room.serve("--publications", "80", "--pages", "8000", "--setting", "arena-pages=8192", *PATIENT)
     with Peer(room.at("p1")) as one:
         one.enter()
         publications = [one.registered(publish_alone) for _ in range(70)]
@@ -465,11 +490,14 @@ def case_a_wait_is_a_second_at_most(room):
             answer = two.ask(request)
             took = time.monotonic() - begun
             same("the answer", wanted, answer[-1][0])
-            need(wanted == REFUSED or 0.9 < took < 3, "it waited for", took)
-        two.send(mail(400) + mail(400))
+            need(wanted == REFUSED or took > 0.9, "it waited for", took)
+            soon(took < 3, "it waited for", took)
         begun = time.monotonic()
+        two.send(mail(400) + mail(400))
         two.answer(), two.answer()
-        need(0.7 < time.monotonic() - begun < 3, "two waits of 0.4 s took", time.monotonic() - begun)
+        took = time.monotonic() - begun
+        need(took > 0.7, "two waits of 0.4 s took", took)
+        soon(took < 3, "two waits of 0.4 s took", took)
 
 
 def case_a_publisher_waits_in_the_driver(room):
@@ -485,12 +513,15 @@ def case_a_publisher_waits_in_the_driver(room):
             need(taken < 1000, "no back pressure")
         need(taken >= 25, "back pressure after", taken)
         answers = []
+        begun = time.monotonic()
         thread = threading.Thread(target=lambda: answers.extend(one.ask(offer(publication, b"last", seen=1, wait=1000))))
         thread.start()
         count = 0
         while count < taken:
             count += len(two.ask(poll(subscription, source, limit=10))) - 1
-        thread.join(5)
+        took = time.monotonic() - begun
+        thread.join(60)
+        soon(took < 0.9, "all is read after", took)
         same("the offer that waited", [TAKEN], [kind for kind, _ in answers])
 
 

@@ -22,7 +22,7 @@ static int enter(struct apd_driver *driver, const char *folder, const char *name
 {
     char path[256];
     snprintf(path, sizeof path, "%s/%s.sock", folder, name);
-    return apd_connect(driver, path, buffers[place], sizeof buffers[place], 10000);
+    return apd_connect(driver, path, buffers[place], sizeof buffers[place], 60000);
 }
 
 /* What a reader has read: messages of 8 bytes and more that begin with their number. */
@@ -60,14 +60,14 @@ static void counters(struct apd_driver *driver)
     uint64_t counter = 0;
     int64_t value = 0;
     int found = 0;
-    NEED(apd_add_counter(driver, 2000, "key", 3, "orders", 5000, &counter) == APD_OK && counter != 0);
-    NEED(apd_set_counter(driver, counter, -9, 5000) == APD_OK);
+    NEED(apd_add_counter(driver, 2000, "key", 3, "orders", 60000, &counter) == APD_OK && counter != 0);
+    NEED(apd_set_counter(driver, counter, -9, 60000) == APD_OK);
     NEED(apd_value(driver, counter, &value) == APD_OK && value == -9);
     NEED(apd_list(driver, on_row, &found) > 0 && found == 1);
-    NEED(apd_remove_counter(driver, counter, 5000) == APD_OK);
-    NEED(apd_remove_counter(driver, counter, 5000) == APD_REFUSED && driver->code == APD_CODE_UNKNOWN_COUNTER);
+    NEED(apd_remove_counter(driver, counter, 60000) == APD_OK);
+    NEED(apd_remove_counter(driver, counter, 60000) == APD_REFUSED && driver->code == APD_CODE_UNKNOWN_COUNTER);
     NEED(apd_value(driver, counter, &value) == APD_REFUSED && driver->code == APD_CODE_UNKNOWN_COUNTER);
-    NEED(apd_add_counter(driver, 2000, NULL, 0, "", 5000, &counter) == APD_OK);
+    NEED(apd_add_counter(driver, 2000, NULL, 0, "", 60000, &counter) == APD_OK);
 }
 
 static void faults(const char *folder, struct apd_driver *two)
@@ -86,12 +86,12 @@ static void faults(const char *folder, struct apd_driver *two)
     apd_close(&driver);
     apd_close(&driver);
     NEED(apd_keepalive(&driver) == APD_ENDED);
-    NEED(apd_add_publication(two, "aeron:ipc", 10, 5000, &publication) == APD_REFUSED);
+    NEED(apd_add_publication(two, "aeron:ipc", 10, 60000, &publication) == APD_REFUSED);
     NEED(two->code == APD_CODE_DENIED && strcmp(two->text, "denied by rule 1 in policy 1") == 0);
-    NEED(apd_terminate(two, 5000) == APD_REFUSED && two->code == APD_CODE_DENIED);
-    NEED(apd_add_publication(two, "not a channel", 10, 5000, &publication) == APD_REFUSED && two->code == 1);
+    NEED(apd_terminate(two, 60000) == APD_REFUSED && two->code == APD_CODE_DENIED);
+    NEED(apd_add_publication(two, "not a channel", 10, 60000, &publication) == APD_REFUSED && two->code == 1);
     NEED(apd_offer(two, 12345, "x", 1, 0, NULL) == APD_REFUSED && two->code == APD_CODE_CLOSED);
-    NEED(apd_remove_publication(two, 12345, 5000) == APD_REFUSED && two->code == 3);
+    NEED(apd_remove_publication(two, 12345, 60000) == APD_REFUSED && two->code == 3);
 }
 
 /* Messages of many lengths, sent ahead to a reader that has little room left all the time. */
@@ -106,8 +106,8 @@ static void messages(struct apd_driver *one, struct apd_driver *two, uint64_t co
     size_t bytes = 0;
     memset(&seen, 0, sizeof seen);
     apd_joiner_init(&seen.joiner, room, sizeof room);
-    NEED(apd_add_subscription(two, "aeron:ipc", 10, 5000, images, 2, &subscription) == APD_OK);
-    NEED(apd_add_publication(one, "aeron:ipc", 10, 5000, &publication) == APD_OK);
+    NEED(apd_add_subscription(two, "aeron:ipc", 10, 60000, images, 2, &subscription) == APD_OK);
+    NEED(apd_add_publication(one, "aeron:ipc", 10, 60000, &publication) == APD_OK);
     NEED(apd_poll(two, &subscription, 10, 0, on_message, &seen) == 0);
     while (seen.next < count) {
         size_t some = 0, taken = 0;
@@ -126,14 +126,14 @@ static void messages(struct apd_driver *one, struct apd_driver *two, uint64_t co
         before = position;
         for (size_t i = 0; i < taken; i++) bytes += batch[i].size;
         sent += taken;
-        NEED(apd_poll(two, &subscription, 30, 1000, on_message, &seen) > 0);
+        NEED(apd_poll(two, &subscription, 30, 60000, on_message, &seen) > 0);
     }
     NEED(seen.next == count && seen.whole == bytes && subscription.count == 1 && subscription.missed == 0);
     NEED(apd_poll(two, &subscription, 30, 0, on_message, &seen) == 0);
     NEED(apd_offer(one, publication, data[0], 8193, 0, &position) == APD_REFUSED && one->code == APD_CODE_TOO_LONG);
-    NEED(apd_remove_publication(one, publication, 5000) == APD_OK);
-    NEED(apd_remove_subscription(two, &subscription, 5000) == APD_OK);
-    NEED(apd_remove_subscription(two, &subscription, 5000) == APD_REFUSED && two->code == 2);
+    NEED(apd_remove_publication(one, publication, 60000) == APD_OK);
+    NEED(apd_remove_subscription(two, &subscription, 60000) == APD_OK);
+    NEED(apd_remove_subscription(two, &subscription, 60000) == APD_REFUSED && two->code == 2);
 }
 
 static void on_large(void *context, const struct apd_fragment *fragment)
@@ -159,10 +159,10 @@ static void large(struct apd_driver *one, struct apd_driver *two)
     uint64_t publication = 0, position = 0;
     for (size_t i = 0; i < sizeof data; i++) data[i] = (unsigned char)(i * 7);
     apd_joiner_init(&joiner, room, sizeof room);
-    NEED(apd_add_subscription(two, "aeron:ipc", 50, 5000, images, 2, &subscription) == APD_OK);
-    NEED(apd_add_publication(one, "aeron:ipc?mtu=65504|term-length=1m", 50, 5000, &publication) == APD_OK);
-    NEED(apd_offer(one, publication, data, sizeof data, 1000, &position) == APD_OK && position > sizeof data);
-    for (int tries = 0; joiner.begun != 2 && tries < 50; tries++)
+    NEED(apd_add_subscription(two, "aeron:ipc", 50, 60000, images, 2, &subscription) == APD_OK);
+    NEED(apd_add_publication(one, "aeron:ipc?mtu=65504|term-length=1m", 50, 60000, &publication) == APD_OK);
+    NEED(apd_offer(one, publication, data, sizeof data, 60000, &position) == APD_OK && position > sizeof data);
+    for (int tries = 0; joiner.begun != 2 && tries < 1000; tries++)
         NEED(apd_poll(two, &subscription, 10, 200, on_large, &joiner) >= 0);
     NEED(joiner.begun == 2);
     /* one that finds no room is left out, and the next one comes */
@@ -176,8 +176,8 @@ static void large(struct apd_driver *one, struct apd_driver *two)
     NEED(apd_join(&joiner, &parts[1], &message, &size) == 0 && apd_join(&joiner, &parts[2], &message, &size) == 0);
     NEED(apd_join(&joiner, &parts[0], &message, &size) == 0 && apd_join(&joiner, &parts[2], &message, &size) == 1);
     NEED(size == 65600 && memcmp(message, data, 65472) == 0);
-    NEED(apd_remove_publication(one, publication, 5000) == APD_OK);
-    NEED(apd_remove_subscription(two, &subscription, 5000) == APD_OK);
+    NEED(apd_remove_publication(one, publication, 60000) == APD_OK);
+    NEED(apd_remove_subscription(two, &subscription, 60000) == APD_OK);
 }
 
 static void count_one(void *context, const struct apd_fragment *fragment)
@@ -193,21 +193,21 @@ static void sources(struct apd_driver *one, struct apd_driver *two)
     struct apd_image images[3];
     struct apd_subscription subscription;
     uint64_t publications[4], counts[4] = {0, 0, 0, 0};
-    NEED(apd_add_subscription(two, "aeron:ipc", 30, 5000, images, 3, &subscription) == APD_OK);
-    for (int i = 0; i < 4; i++) NEED(apd_add_exclusive_publication(one, "aeron:ipc", 30, 5000, &publications[i]) == APD_OK);
-    for (int tries = 0; subscription.count + subscription.missed < 4 && tries < 100; tries++)
+    NEED(apd_add_subscription(two, "aeron:ipc", 30, 60000, images, 3, &subscription) == APD_OK);
+    for (int i = 0; i < 4; i++) NEED(apd_add_exclusive_publication(one, "aeron:ipc", 30, 60000, &publications[i]) == APD_OK);
+    for (int tries = 0; subscription.count + subscription.missed < 4 && tries < 1000; tries++)
         NEED(apd_poll(two, &subscription, 10, 20, count_one, counts) >= 0);
     NEED(subscription.count == 3 && subscription.missed == 1);
     for (int i = 0; i < 4; i++)
         for (int j = 0; j < 10; j++) {
             unsigned char byte = (unsigned char)i;
-            NEED(apd_offer(one, publications[i], &byte, 1, 1000, NULL) == APD_OK);
+            NEED(apd_offer(one, publications[i], &byte, 1, 60000, NULL) == APD_OK);
         }
-    for (int tries = 0; counts[0] + counts[1] + counts[2] + counts[3] < 30 && tries < 100; tries++)
+    for (int tries = 0; counts[0] + counts[1] + counts[2] + counts[3] < 30 && tries < 1000; tries++)
         NEED(apd_poll(two, &subscription, 4, 100, count_one, counts) >= 0);
     NEED(counts[0] + counts[1] + counts[2] + counts[3] == 30);
-    for (int i = 0; i < 4; i++) NEED(apd_remove_publication(one, publications[i], 5000) == APD_OK);
-    NEED(apd_remove_subscription(two, &subscription, 5000) == APD_OK);
+    for (int i = 0; i < 4; i++) NEED(apd_remove_publication(one, publications[i], 60000) == APD_OK);
+    NEED(apd_remove_subscription(two, &subscription, 60000) == APD_OK);
 }
 
 /* A term has 65,536 bytes, and a log takes half a term past its slowest reader. */
@@ -218,10 +218,10 @@ static void positions(struct apd_driver *one, struct apd_driver *two)
     struct apd_publication_positions written;
     struct apd_image_positions seen;
     uint64_t publication = 0, counts[256] = {0};
-    NEED(apd_add_subscription(two, "aeron:ipc", 60, 5000, images, 2, &subscription) == APD_OK);
-    NEED(apd_add_publication(one, "aeron:ipc", 60, 5000, &publication) == APD_OK);
-    for (int i = 0; i < 3; i++) NEED(apd_offer(one, publication, "x", 1, 1000, NULL) == APD_OK);
-    for (int tries = 0; counts['x'] == 0 && tries < 50; tries++)
+    NEED(apd_add_subscription(two, "aeron:ipc", 60, 60000, images, 2, &subscription) == APD_OK);
+    NEED(apd_add_publication(one, "aeron:ipc", 60, 60000, &publication) == APD_OK);
+    for (int i = 0; i < 3; i++) NEED(apd_offer(one, publication, "x", 1, 60000, NULL) == APD_OK);
+    for (int tries = 0; counts['x'] == 0 && tries < 1000; tries++)
         NEED(apd_poll(two, &subscription, 1, 100, count_one, counts) >= 0);
     NEED(counts['x'] == 1 && subscription.count == 1);
     NEED(apd_publication_positions(one, publication, &written) == APD_OK);
@@ -231,17 +231,17 @@ static void positions(struct apd_driver *one, struct apd_driver *two)
     NEED(seen.joined == 0 && seen.position == 64 && seen.received == 192);
     NEED(apd_image_positions(two, subscription.registration, 99999, &seen) == APD_REFUSED && two->code == APD_CODE_CLOSED);
     NEED(apd_publication_positions(two, publication, &written) == APD_REFUSED && two->code == APD_CODE_CLOSED);
-    NEED(apd_remove_publication(one, publication, 5000) == APD_OK);
-    NEED(apd_remove_subscription(two, &subscription, 5000) == APD_OK);
+    NEED(apd_remove_publication(one, publication, 60000) == APD_OK);
+    NEED(apd_remove_subscription(two, &subscription, 60000) == APD_OK);
 }
 
 static void destinations(struct apd_driver *one)
 {
     uint64_t publication = 0;
-    NEED(apd_add_publication(one, "aeron:udp?control-mode=manual", 40, 5000, &publication) == APD_OK);
-    NEED(apd_add_destination(one, publication, "aeron:udp?endpoint=127.0.0.1:9", 5000) == APD_OK);
-    NEED(apd_add_destination(one, publication, "aeron:udp?endpoint=127.0.0.1:9", 5000) == APD_REFUSED && one->code == 1005);
-    NEED(apd_remove_destination(one, publication, "aeron:udp?endpoint=127.0.0.1:9", 5000) == APD_OK);
+    NEED(apd_add_publication(one, "aeron:udp?control-mode=manual", 40, 60000, &publication) == APD_OK);
+    NEED(apd_add_destination(one, publication, "aeron:udp?endpoint=127.0.0.1:9", 60000) == APD_OK);
+    NEED(apd_add_destination(one, publication, "aeron:udp?endpoint=127.0.0.1:9", 60000) == APD_REFUSED && one->code == 1005);
+    NEED(apd_remove_destination(one, publication, "aeron:udp?endpoint=127.0.0.1:9", 60000) == APD_OK);
 }
 
 static void ignore(void *context, const struct apd_fragment *fragment)

@@ -16,14 +16,24 @@ TOP = os.path.dirname(os.path.dirname(HERE))
 sys.path.insert(0, HERE)
 sys.path.insert(0, os.path.join(TOP, "clients", "python"))
 
-# No case takes longer, in seconds, whatever the machine does beside.
-LONGEST = 100
+# No run of a case takes longer, in seconds, whatever the machine does beside.
+LONGEST = 400
+
+# How often a case is run at most where the machine held it up.
+TRIES = 5
 
 # The files that have cases, in their order.
 FILES = ("cases_talk", "cases_python", "cases_c", "cases_records", "cases_ends", "cases_bounds", "cases_many", "cases_doors")
 
+# The code and the text of what an operator is told who asks for nothing in time.
+NOTHING_ASKED = (6, "unknown request")
+
 ALLOW = 'version = 1\ndefault = "allow"\n'
 DENY = 'version = 1\ndefault = "deny"\n'
+
+
+# Words of `serve`: clients may be silent for longer than a busy machine takes for all of a case.
+PATIENT = ("--setting", "client-liveness=300000000000")
 
 
 class LeftOut(Exception):
@@ -34,10 +44,20 @@ class Failed(Exception):
     """What does not hold."""
 
 
+class Late(Failed):
+    """What does not hold in time. The machine may have held the case up, so it is run again; it fails where each run is late."""
+
+
 def need(holds, *words):
     """Ends the case where that does not hold."""
     if not holds:
         raise Failed(" ".join(str(word) for word in words))
+
+
+def soon(holds, *words):
+    """Ends this run of the case where that, which is about time, does not hold."""
+    if not holds:
+        raise Late(" ".join(str(word) for word in words))
 
 
 def same(what, wanted, got):
@@ -46,8 +66,8 @@ def same(what, wanted, got):
         raise Failed("%s: wanted %.300r, got %.300r" % (what, wanted, got))
 
 
-def until(what, holds, seconds=10.0):
-    """Waits until that holds: what it gave, and how long it took."""
+def until(what, holds, seconds=60.0):
+    """Waits until that holds, for longer than a busy machine needs: what it gave, and how long it took."""
     begun = time.monotonic()
     while True:
         got = holds()
@@ -87,11 +107,11 @@ class Room:
         self.processes.append(process)
         return process
 
-    def call(self, *words, seconds=20, **more):
+    def call(self, *words, seconds=60, **more):
         """Runs the program with these words to its end: status, output, errors."""
         return self.run(self.program, *words, seconds=seconds, **more)
 
-    def run(self, *words, seconds=20, given=None, **more):
+    def run(self, *words, seconds=60, given=None, **more):
         """Runs a process to its end: status, output, errors."""
         if given is not None:
             with open(self.path + "/given", "wb") as file:
@@ -103,7 +123,7 @@ class Room:
         status = self.ended(process, seconds)
         return status, said(process.out), said(process.err)
 
-    def ended(self, process, seconds=20):
+    def ended(self, process, seconds=60):
         """Waits for the end of a process: its status."""
         try:
             return process.wait(seconds)
@@ -142,7 +162,7 @@ class Room:
 
     def served(self, driver):
         """Waits until a driver serves, or ends the case."""
-        end = time.monotonic() + 20
+        end = time.monotonic() + 60
         while "serving" not in said(driver.err):
             if driver.poll() is not None or time.monotonic() > end:
                 raise Failed("no driver: %s" % said(driver.err).strip())
@@ -152,11 +172,35 @@ class Room:
         """The path of a socket."""
         return "%s/%s.sock" % (self.folder, name)
 
+    # ---- operators
+
     def clients(self):
         """The lines of STATUS."""
+        return self.asked("clients")
+
+    def asked(self, word, path=None):
+        """What an operator is answered by the client in Python, whose function has that name.
+
+        The driver gives an operator 200 ms to ask. One that the machine holds up for so long is told what one is told who asks
+        for nothing, and nothing is done: it asks again.
+        """
         import aeron_policyd
 
-        return aeron_policyd.clients(self.at("operator"), timeout=5)
+        for _ in range(TRIES):
+            try:
+                return getattr(aeron_policyd, word)(path or self.at("operator"))
+            except aeron_policyd.Ended as end:
+                if end.code != NOTHING_ASKED[0]:
+                    raise
+        raise Failed("an operator is late each time")
+
+    def order(self, word):
+        """The same by the program, with that word: status, output, errors."""
+        for _ in range(TRIES):
+            answered = self.call(word, "--driver", self.at("operator"))
+            if answered != (1, "", "aeron_policyd: %s\n" % NOTHING_ASKED[1]):
+                break
+        return answered
 
     def leave_out(self, words):
         """Says that a part of the case is not run."""
@@ -194,7 +238,17 @@ def _too_long(_signal, _frame):
 
 
 def run_case(case, program):
-    """Runs a case: whether all of it was left out, what went wrong if anything did, and which parts were left out."""
+    """Runs a case, and again where it was late: whether all of it was left out, what went wrong, and which parts were left out."""
+    for number in range(TRIES):
+        try:
+            return run_once(case, program, number + 1 < TRIES)
+        except Late as late:
+            if os.environ.get("TIMES"):
+                print("late: %s: %s" % (case.__name__[5:], late), flush=True)
+
+
+def run_once(case, program, may_be_late):
+    """Runs a case once."""
     room = Room(program)
     signal.alarm(LONGEST)
     try:
@@ -203,6 +257,8 @@ def run_case(case, program):
     except LeftOut as why:
         return True, None, room.left_out + [str(why)]
     except Exception as error:
+        if may_be_late and isinstance(error, Late):
+            raise
         place = traceback.extract_tb(error.__traceback__)
         line = [step.lineno for step in place if os.path.basename(step.filename).startswith("cases")]
         words = str(error) or type(error).__name__
