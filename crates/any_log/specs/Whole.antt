@@ -27,7 +27,8 @@ StandsFor (Term log) (rebuilt r) = ⊥
 StandsFor (Image log) (whole w) = ⊥
 StandsFor (Image log) (rebuilt r) = log.rebuilt ≡ r
 
--- what is held stands for some whole log, so that whatever is said of each such log is said of one
+-- What is held stands for some whole log, so that whatever is said of each such log is said of one. (A remote stream's log always
+-- does, for what it keeps: what holds of its frames and bytes is its layout.)
 pub record HasWhole (log : AnyLog) : Type 0 where
   pub whole : AnyWhole
   pub stands : StandsFor log whole

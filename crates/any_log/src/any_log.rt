@@ -1,4 +1,5 @@
 ghost use Rattle.any_log.specs.Held.{AreFor, Lies, is_silent_held, joined_held, left_held, made_held, messages_held, pairs_held, place_held, position_held, reach_held, rejoined_held};
+ghost use Rattle.any_log.specs.Layout.{HasLayout};
 ghost use Rattle.any_log.specs.Whole.{Carries, Counts, Fetches, Words, beaten, joined, left, polled, received, rejoined};
 ghost use Rattle.frame_codec.specs.Frames.{frames_left};
 ghost use Rattle.log_arena.specs.Lease.{lease_home, lease_len, lease_place};
@@ -23,6 +24,17 @@ pub enum AnyLog {
 }
 
 impl AnyLog {
+    /// What always holds: no two frames meet, each names the log's session and stream, beside them are zeros, and each reader
+    /// stands where a frame begins, or as far as the log reaches.
+    pub fn holds(&self)
+        ensures { HasLayout self.now }
+    {
+        match self {
+            AnyLog::Term(log) => log.holds(),
+            AnyLog::Image(log) => log.holds(),
+        }
+    }
+
     /// How far the log reaches: the position after the last frame of a publication, or up to which a remote stream is
     /// whole.
     pub fn reach(&self) -> u64

@@ -21,7 +21,7 @@ pub record HasNoFrame (w : Whole) : Type 0 where
   pub zeros : (held : Log) → Stands held w → held.kept.buffers.bytes ≡ replicate (3 * w.ident.term_length) 0
 
 -- An image's map of frames has no entry. Whatever bytes are zeros outside of its frames, as `ImageLog::close` says of its lease,
--- are zeros alone. (While an image's log is open, no contract sees its bytes.)
+-- are zeros alone. (While its log is open `ImageLog::holds` says so of it.)
 pub record HasNoEntry (r : Rebuilt) : Type 0 where
   pub frames : r.frames ≡ []
   pub zeros : (len : ℕ) (bytes : List ℕ) → IsBlank len r.frames bytes → (at : ℕ) → slice_index bytes at ≡ 0

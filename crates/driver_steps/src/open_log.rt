@@ -1,9 +1,11 @@
 ghost use Rattle.any_log.specs.declared.any_log.AnyLog.TheVariants.{Term, Image as ImageOf};
 ghost use Rattle.any_log.specs.Held.{is_silent_held, joined_held, left_held, messages_held, pairs_held, place_held, reach_held, rejoined_held};
+ghost use Rattle.any_log.specs.Layout.{HasLayout};
 ghost use Rattle.any_log.specs.Whole.{Carries, Counts, HasWhole, StandsFor, joined, left, rebuilt, rejoined, whole};
 ghost use Rattle.driver_steps.specs.Held.{LiesAsBefore};
 ghost use Rattle.driver_steps.specs.Idents.{heard_at};
 ghost use Rattle.driver_steps.specs.Recovery.{recovering};
+ghost use Rattle.image_log.specs.Log.{log_in};
 ghost use Rattle.image_log.specs.Rebuilt.{opened as image_opened};
 ghost use Rattle.image_log.specs.Stored.{held_of};
 ghost use Rattle.learnt_addresses.specs.Laws.{AreOrderly};
@@ -89,7 +91,7 @@ impl OpenLog {
         requires join { (join % 32 ≡ 0) × (join < ident.term_length * 2 ^ 31) }
         ensures exact { result ≡ record {
           source = source;
-          log = ImageOf (record { held = held_of lease; rebuilt = heard_at now (image_opened ident join) });
+          log = ImageOf (log_in (held_of lease) (heard_at now (image_opened ident join)));
           recovery = recovering settings;
         } }
         ensures stands { StandsFor result.log (rebuilt (heard_at now (image_opened ident join))) }
@@ -103,11 +105,13 @@ impl OpenLog {
         }
     }
 
-    /// That what is held stands for some whole log.
+    /// That what is held stands for some whole log, and that no two of its frames meet, each names its session and stream, beside
+    /// them are zeros, and each reader stands where a frame begins, or as far as the log reaches.
     pub fn has_whole(&self)
-        ensures { HasWhole self.now.log }
+        ensures whole { HasWhole self.now.log }
+        ensures layout { HasLayout self.now.log }
     {
-        let _ = &self.source;
+        self.log.holds();
     }
 
     /// That the log has learnt no address twice, and 32 at most.

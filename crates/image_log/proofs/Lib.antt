@@ -1,8 +1,10 @@
+pub mod Beside
 pub mod Between
 pub mod Cleared
 pub mod Dropping
 pub mod Found
 pub mod FrameLaws
+pub mod Layouts
 pub mod Naming
 pub mod Offsets
 pub mod Orders

@@ -4,7 +4,7 @@ use Rattle.log_arena.specs.Lease.{lease_bytes, lease_len}
 use Rattle.log_arena.specs.declared.lease.Lease.{Lease}
 use Rattle.image_log.specs.Frame.{Frame}
 use Rattle.image_log.specs.Order.{Ordered}
-use Rattle.image_log.specs.Stored.{Stored, IsBlank, held_of}
+use Rattle.image_log.specs.Stored.{Stored, IsBlank, bytes_beside, held_of}
 use Rattle.image_log.specs.declared.place.Place.{Place}
 
 -- the frame at a place, in `len` bytes
@@ -20,7 +20,12 @@ Fits len [] = Unit {0}
 Fits len (p ∷ ps) = (p.size ≤ p.span) × (p.position % len + p.span ≤ len) × Fits len ps
 
 abbrev pub stored_of : Lease → ℕ → List Place → Stored
-stored_of lease low places = record { held = held_of lease; low = low; frames = contents (lease_len lease) (lease_bytes lease) places }
+stored_of lease low places = record {
+  held = held_of lease;
+  low = low;
+  frames = contents (lease_len lease) (lease_bytes lease) places;
+  beside = bytes_beside (lease_len lease) (contents (lease_len lease) (lease_bytes lease) places) (lease_bytes lease);
+}
 
 -- places in order that hold all of the lease's bytes that are not 0, with room for so many places
 pub record IsStore (lease : Lease) (low : ℕ) (places : List Place) (room : ℕ) : Type 0 where

@@ -2,6 +2,7 @@ pub mod Answer
 pub mod Frame
 pub mod Handed
 pub mod Kept
+pub mod Layout
 pub mod Log
 pub mod Order
 pub mod Pairs

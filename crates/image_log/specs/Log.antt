@@ -1,5 +1,5 @@
 -- A log's fields, and what holds of them.
-use Rattle.std.specs.Prelude.{◌≡◌, ℕ, ◌+◌, ◌*◌, ◌<◌, ◌≤◌, ◌^◌, max, List, Option}
+use Rattle.std.specs.Prelude.{◌≡◌, ℕ, ◌+◌, ◌*◌, ◌<◌, ◌≤◌, ◌^◌, max, List, Option, replicate}
 use Rattle.image_log.specs.Handed.{AreFor}
 use Rattle.image_log.specs.Order.{InTerms, Ordered, chain}
 use Rattle.image_log.specs.Pairs.{AreStarts, AreWithin}
@@ -9,10 +9,15 @@ use Rattle.image_log.specs.declared.ident.Ident.{Ident}
 use Rattle.image_log.specs.declared.status.LastStatus.{LastStatus}
 use Rattle.log_pairs.specs.declared.pair.Pair.{Pair}
 
--- the lease of an open log, and the map of its frames
+-- the lease of an open log, the map of its frames, and the lease's bytes beside the frames, of which those of a frame count as 0
 pub record Log : Type 0 where
   pub held : Held
   pub rebuilt : Rebuilt
+  pub beside : List ℕ
+
+-- in a lease that has zeros beside the frames
+abbrev pub log_in : Held → Rebuilt → Log
+log_in held rebuilt = record { held = held; rebuilt = rebuilt; beside = replicate held.len 0 }
 
 abbrev pub rebuilt_of : Ident → ℕ → ℕ → ℕ → ℕ → Option LastStatus → List Pair → Stored → Rebuilt
 rebuilt_of ident join base greatest moment status pairs store = record {
@@ -28,7 +33,7 @@ rebuilt_of ident join base greatest moment status pairs store = record {
 
 abbrev pub log_of : Ident → ℕ → ℕ → ℕ → ℕ → Option LastStatus → List Pair → Stored → Log
 log_of ident join base greatest moment status pairs store =
-    record { held = store.held; rebuilt = rebuilt_of ident join base greatest moment status pairs store }
+    record { held = store.held; rebuilt = rebuilt_of ident join base greatest moment status pairs store; beside = store.beside }
 
 pub record IsLog (ident : Ident) (join base contiguous : ℕ) (pairs : List Pair) (store : Stored) : Type 0 where
   pub terms : (65536 ≤ ident.term_length) × (ident.term_length ≤ 16777216)

@@ -2,12 +2,15 @@ ghost use Rattle.std.specs.Prelude.{◌≡◌, ℕ, ◌+◌, ◌*◌, ◌%◌, �
 ghost use Rattle.log_arena.specs.Lease.{lease_bytes, lease_len};
 ghost use Rattle.image_log.specs.Frame.{framed};
 ghost use Rattle.image_log.specs.Handed.{AreFor, IsFor, offset_of, span_of};
+ghost use Rattle.image_log.specs.Layout.{layout_of};
+ghost use Rattle.image_log.specs.Log.{log_in};
 ghost use Rattle.image_log.specs.Order.{rank};
 ghost use Rattle.image_log.specs.Polling.{IsAhead, polled, polled_frame, whole_from};
 ghost use Rattle.image_log.specs.Reading.{Adjoin, AreBetween};
 ghost use Rattle.image_log.specs.Rebuilt.{IsStart, advanced, after_insert, contiguous_of, frames_of, gap_of, insert_of, is_beyond, is_silent, joined, left, low_of, opened, reach_of, rejoined, settled, term_end, term_start, window_of};
 ghost use Rattle.image_log.specs.Status.{is_due, told};
 ghost use Rattle.image_log.specs.Stored.{IsBlank, StandIn, held_of};
+ghost use Rattle.log_pairs.specs.Layout.{IsWellFormed};
 ghost use Rattle.log_pairs.specs.Pairs.{ReadsUpTo, position_of};
 ghost use Rattle.log_pairs.specs.Polling.{behind, fragments_of, passed};
 
@@ -90,7 +93,7 @@ impl ImageLog {
         requires lease { lease_len lease ≡ 3 * ident.term_length }
         requires zeros { lease_bytes lease ≡ replicate (3 * ident.term_length) 0 }
         requires join { (join % 32 ≡ 0) × (join < ident.term_length * 2 ^ 31) }
-        ensures { result ≡ record { held = held_of lease; rebuilt = opened ident join } }
+        ensures { result ≡ log_in (held_of lease) (opened ident join) }
     {
         let store = Store::open(room.places, lease, join);
         ImageLog {
@@ -104,6 +107,14 @@ impl ImageLog {
             pairs: room.pairs,
             store,
         }
+    }
+
+    /// What always holds: no two frames meet, each names the log's session and stream, the lease has zeros beside them, and
+    /// each subscription that reads stands where a frame begins, or at the contiguous position, and not below the base.
+    pub fn holds(&self)
+        ensures { IsWellFormed (layout_of self.now) }
+    {
+        self.store.is_blank();
     }
 
     /// Which stream it is of: the one that each frame names which is kept.

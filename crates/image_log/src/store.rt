@@ -1,4 +1,4 @@
-ghost use Rattle.std.specs.Prelude.{◌≡◌, ◌+◌, ◌/◌, ◌%◌, ◌^◌, ◌<◌, ◌≤◌, [], length, drop, filter, insert, nat_lt, replicate};
+ghost use Rattle.std.specs.Prelude.{◌≡◌, ◌+◌, ◌/◌, ◌%◌, ◌^◌, ◌<◌, ◌≤◌, All, [], length, drop, filter, insert, nat_lt, replicate};
 ghost use Rattle.std.specs.List.{list_any};
 ghost use Rattle.std.specs.VecDeque.{deque_capacity, deque_len};
 ghost use Rattle.log_arena.specs.Lease.{lease_bytes, lease_len};
@@ -74,6 +74,13 @@ impl Store {
             offset,
             places,
         }
+    }
+
+    /// That zeros are beside the frames.
+    pub(crate) fn is_blank(&self)
+        ensures { All (λ byte. byte ≡ 0) self.now.beside }
+    {
+        let _ = &self.low;
     }
 
     /// The position below which no frame begins.

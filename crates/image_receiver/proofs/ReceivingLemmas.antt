@@ -27,18 +27,19 @@ frames_are ident (frame ∷ later) begins told one =
     (told.0, begins, beside_are ident frame.header.place later begins told.1 one)
 
 -- what holds while frames are handed in: the words so far, and then those for the frames that are still to come
-abbrev pub IsHanding : Log → List Sent → List Insert → ℕ → List Insert → Rebuilt → Held → Type 0
-IsHanding log left words room all end held =
+abbrev pub IsHanding : Log → List Sent → List Insert → ℕ → List Insert → Rebuilt → Held → List ℕ → Type 0
+IsHanding log left words room all end held beside =
     (words ++ words_of log.rebuilt left ≡ all)
     × (after_frames log.rebuilt left ≡ end)
     × (log.held ≡ held)
     × AreOf log.rebuilt.ident left
     × (length words + length left ≤ room)
+    × (log.beside ≡ beside)
 
-pub one_more : (log : Log) (frame : Sent) (left : List Sent) (words : List Insert) (room : ℕ) (all : List Insert) (end : Rebuilt) (held : Held)
-    → IsHanding log (frame ∷ left) words room all end held
-    → IsHanding (record log { rebuilt = after_frame log.rebuilt frame }) left (words ++ word_of log.rebuilt frame ∷ []) room all end held
-one_more log frame left words room all end held is =
+pub one_more : (log : Log) (frame : Sent) (left : List Sent) (words : List Insert) (room : ℕ) (all : List Insert) (end : Rebuilt) (held : Held) (beside : List ℕ)
+    → IsHanding log (frame ∷ left) words room all end held beside
+    → IsHanding (record log { rebuilt = after_frame log.rebuilt frame }) left (words ++ word_of log.rebuilt frame ∷ []) room all end held beside
+one_more log frame left words room all end held beside is =
     let one : length (words ++ word_of log.rebuilt frame ∷ []) ≡ length words + 1 = length-append words (word_of log.rebuilt frame ∷ []) in
     let count = is.4 in (
       append_assoc words (word_of log.rebuilt frame ∷ []) (words_of (after_frame log.rebuilt frame) left) ∙ is.0,
@@ -46,4 +47,5 @@ one_more log frame left words room all end held is =
       is.2,
       subst (λ (ident : Ident). AreOf ident left) (sym (ident_stays log.rebuilt frame)) is.3.2,
       omega (arith, one, count),
+      is.5,
     )

@@ -1,3 +1,4 @@
 pub mod Pairs
 pub mod Copies
+pub mod Layout
 pub mod Polling

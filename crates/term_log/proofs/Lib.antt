@@ -4,6 +4,7 @@ pub mod Cuts
 pub mod Ends
 pub mod Fronts
 pub mod Held
+pub mod Layouts
 pub mod Nears
 pub mod Offsets
 pub mod Passing

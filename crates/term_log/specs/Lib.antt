@@ -11,6 +11,7 @@ pub mod Reading
 pub mod Ranges
 pub mod Polling
 pub mod Whole
+pub mod Layout
 pub mod SenderSteps
 pub mod PollLaws
 pub mod Counting

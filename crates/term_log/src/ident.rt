@@ -1,3 +1,6 @@
+ghost use Rattle.std.specs.Int.{w32};
+ghost use Rattle.std.specs.Prelude.{FitsSigned};
+
 /// Over what a log is read.
 #[derive(Clone, Copy, Debug, PartialEq, Eq)]
 pub enum LogKind {
@@ -21,4 +24,22 @@ pub struct Ident {
     pub mtu: u32,
     /// The position at which the log begins: a multiple of 32 below the greatest position.
     pub start: u64,
+}
+
+/// That a number is in the range of its type.
+fn has_32_bits(number: i32)
+    ensures { FitsSigned w32 number }
+{
+    let _ = number;
+}
+
+impl Ident {
+    /// That the numbers of its session and its stream are in the range of their types.
+    pub(crate) fn is_of_32_bits(self)
+        ensures session { FitsSigned w32 self.session }
+        ensures stream { FitsSigned w32 self.stream }
+    {
+        has_32_bits(self.session);
+        has_32_bits(self.stream);
+    }
 }

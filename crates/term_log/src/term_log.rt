@@ -6,6 +6,7 @@ ghost use Rattle.std.specs.Prelude.{◌≡◌, ◌+◌, ◌*◌, ◌/◌, ◌%�
 ghost use Rattle.term_log.specs.Frames.{Frame};
 ghost use Rattle.term_log.specs.Ident.{IsIdent};
 ghost use Rattle.term_log.specs.Kept.{StandsFor, after_frames, opened};
+ghost use Rattle.term_log.specs.Layout.{HasLayout};
 ghost use Rattle.term_log.specs.Log.{HasRoom, appended, connected_of, greatest_message, limit_of, low_of, offer_of};
 ghost use Rattle.term_log.specs.Ranges.{GivesOver, over_left};
 ghost use Rattle.term_log.specs.Reading.{AreFrom, EndsBy, GivesFrom, frames_left, sent_bytes, spans};
@@ -71,6 +72,14 @@ impl TermLog {
             pairs: room.pairs,
             sender: Sender::new(ident.start),
         }
+    }
+
+    /// What always holds: no two frames meet, each names the log's session and stream, after the tail are zeros, and each
+    /// subscription that reads stands where a frame begins, or at the tail, and not below [`TermLog::low`].
+    pub fn holds(&self)
+        ensures { HasLayout self.now }
+    {
+        self.appender.ident().is_of_32_bits();
     }
 
     /// What the log was made for.

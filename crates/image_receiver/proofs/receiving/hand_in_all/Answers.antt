@@ -21,11 +21,12 @@ loop-frame-preserved c =
     let all : List Insert = c.args.words.now.items ++ words_of c.args.log.now.rebuilt first in
     let end : Rebuilt = after_frames c.args.log.now.rebuilt first in
     let held : Held = c.args.log.now.held in
-    let before : IsHanding log (frame ∷ left) words room all end held =
-    subst (λ (gs : List Sent). IsHanding log gs words room all end held) c.in-Some.ensures.steps c.loop-frame.invariant in
-    let after = one_more log frame left words room all end held before in
+    let beside : List ℕ = c.args.log.now.beside in
+    let before : IsHanding log (frame ∷ left) words room all end held beside =
+    subst (λ (gs : List Sent). IsHanding log gs words room all end held beside) c.in-Some.ensures.steps c.loop-frame.invariant in
+    let after = one_more log frame left words room all end held beside before in
     let told : c.push_reserved.new.self.items ≡ words ++ word_of log.rebuilt frame ∷ [] =
     c.push_reserved.ensures.items ∙ ap (λ (w : Insert). words ++ w ∷ []) c.hand_in.ensures.word in
-    subst (λ (l : Log). IsHanding l left c.push_reserved.new.self.items (vec_capacity c.push_reserved.new.self) all end held) (sym c.hand_in.ensures.after)
-    (subst (λ (ws : List Insert). IsHanding (record log { rebuilt = after_frame log.rebuilt frame }) left ws (vec_capacity c.push_reserved.new.self) all end held) (sym told)
-    (subst (λ (n : ℕ). IsHanding (record log { rebuilt = after_frame log.rebuilt frame }) left (words ++ word_of log.rebuilt frame ∷ []) n all end held) (sym c.push_reserved.ensures.capacity) after))
+    subst (λ (l : Log). IsHanding l left c.push_reserved.new.self.items (vec_capacity c.push_reserved.new.self) all end held beside) (sym c.hand_in.ensures.after)
+    (subst (λ (ws : List Insert). IsHanding (record log { rebuilt = after_frame log.rebuilt frame }) left ws (vec_capacity c.push_reserved.new.self) all end held beside) (sym told)
+    (subst (λ (n : ℕ). IsHanding (record log { rebuilt = after_frame log.rebuilt frame }) left (words ++ word_of log.rebuilt frame ∷ []) n all end held beside) (sym c.push_reserved.ensures.capacity) after))

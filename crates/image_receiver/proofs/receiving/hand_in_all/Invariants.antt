@@ -10,4 +10,4 @@ abbrev pub invariant-loop-frame : goal.invariant-loop-frame
 invariant-loop-frame l =
     IsHanding l.log (frames_left l.frame-iterator) l.words.items (vec_capacity l.words)
     (l.initial.words.items ++ words_of l.initial.log.rebuilt (frames_left l.initial.frame-iterator))
-    (after_frames l.initial.log.rebuilt (frames_left l.initial.frame-iterator)) l.initial.log.held
+    (after_frames l.initial.log.rebuilt (frames_left l.initial.frame-iterator)) l.initial.log.held l.initial.log.beside

@@ -3,6 +3,7 @@ use Rattle.std.proofs.Common.{rules, ◌≡◌, ◌*◌, ◌/◌, ◌%◌, ◌<�
 use Rattle.any_log.specs.declared.any_log.AnyLog.{AnyLog}
 use Rattle.any_log.specs.declared.any_log.AnyLog.TheVariants.{Image}
 use Rattle.driver_steps.specs.Idents.{heard_at}
+use Rattle.image_log.specs.Log.{log_in}
 use Rattle.image_log.specs.Rebuilt.{opened}
 use Rattle.image_log.specs.Stored.{held_of}
 use Rattle.driver_steps.specs.Held.{HeldLog, HeldLogs, plot_of, plot_on, plots_of}
@@ -26,7 +27,7 @@ invariant_of-self c =
     let logs : List HeldLog = c.self.inside.logs.items in
     let exact : held ≡ record {
       source = c.args.source;
-      log = Image (record { held = held_of c.in-Ok.lease; rebuilt = heard_at c.args.now (opened c.args.ident c.args.join) });
+      log = Image (log_in (held_of c.in-Ok.lease) (heard_at c.args.now (opened c.args.ident c.args.join)));
       recovery = recovering c.args.settings;
     } =
     c.of_image-log.ensures.exact in
@@ -53,7 +54,7 @@ returns c =
     let logs : List HeldLog = c.self.inside.logs.items in
     let exact : held ≡ record {
       source = c.args.source;
-      log = Image (record { held = held_of c.in-Ok.lease; rebuilt = heard_at c.args.now (opened c.args.ident c.args.join) });
+      log = Image (log_in (held_of c.in-Ok.lease) (heard_at c.args.now (opened c.args.ident c.args.join)));
       recovery = recovering c.args.settings;
     } =
     c.of_image-log.ensures.exact in

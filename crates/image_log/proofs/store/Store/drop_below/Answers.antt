@@ -3,7 +3,7 @@ use Rattle.std.specs.Prelude.{filter}
 use Rattle.image_log.specs.Frame.{Frame}
 use Rattle.image_log.specs.Kept.{contents}
 use Rattle.image_log.specs.Order.{Ordered, begins_from}
-use Rattle.image_log.specs.Stored.{Held, Stored, frame_at}
+use Rattle.image_log.specs.Stored.{Held, Stored, bytes_beside, frame_at}
 use Rattle.image_log.proofs.Cleared.{raised}
 use Rattle.image_log.proofs.Dropping.{kept_rest, ordered_from}
 use Rattle.image_log.proofs.store.Store.drop_below.Goals as goal
@@ -47,4 +47,6 @@ returns c =
     let left : fs ≡ filter (begins_from c.args.low) c.args.self.now.frames =
     sym all ∙ ap (λ (gs : List Frame). filter (begins_from c.args.low) gs) same ∙ c.loop-self.invariant.2 in
     let held : Rattle.image_log.specs.Stored.held_of s.lease ≡ c.args.self.now.held = ap (λ (x : Stored). x.held) c.self.view_is ∙ c.loop-self.invariant.0 in
-    ap₂ (λ (h : Held) (gs : List Frame). let x : Stored = record { held = h; low = c.args.low; frames = gs } in x) held left
+    let same_bytes = ap (λ (x : Stored). x.beside) c.self.view_is ∙ c.loop-self.invariant.3 in
+    ap₂ (λ (h : Held) (gs : List Frame). let x : Stored = record { held = h; low = c.args.low; frames = gs; beside = bytes_beside n fs s.lease.bytes.items } in x) held left
+    ∙ ap (λ (bytes : List ℕ). let x : Stored = record { held = c.args.self.now.held; low = c.args.low; frames = filter (begins_from c.args.low) c.args.self.now.frames; beside = bytes } in x) same_bytes

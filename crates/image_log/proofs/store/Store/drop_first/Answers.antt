@@ -4,6 +4,9 @@ use Rattle.image_log.specs.Kept.{contents}
 use Rattle.image_log.specs.Stored.{Stored, held_of}
 use Rattle.image_log.specs.Writing.{written}
 use Rattle.image_log.specs.declared.place.Place.{Place}
+use Rattle.std.specs.VecDeque.{deque_capacity}
+use Rattle.log_arena.specs.Lease.{with_bytes}
+use Rattle.image_log.proofs.Beside.{store_beside}
 use Rattle.image_log.proofs.Cleared.{drop_all, drop_store}
 use Rattle.image_log.proofs.store.Store.drop_first.Goals as goal
 
@@ -29,5 +32,9 @@ returns c =
     lease.bytes.ok.0 lease.housed.some now in
     let rest : contents lease.bytes.len lease.bytes.items qs ≡ drop 1 (contents lease.bytes.len lease.bytes.items c.self.inside.places.items) =
     sym (ap (λ (ps : List Place). drop 1 (contents lease.bytes.len lease.bytes.items ps)) c.in-Some.ensures.items) in
+    let room : ℕ = deque_capacity c.self.inside.places in
+    let after = drop_store lease c.self.inside.low room room c.clear_at.new.out c.self.inside.places.items qs p c.self.invariant.0 c.in-Some.ensures.items
+    lease.bytes.ok.0 lease.housed.some now (omega arith) in
+    let beside = store_beside (with_bytes lease c.clear_at.new.out) c.self.inside.low _ qs after ∙ sym (store_beside lease c.self.inside.low _ c.self.inside.places.items c.self.invariant.0) in
     rw (← c.self.view_is)
-    (ap (λ (fs : List Frame). let s : Stored = record { held = held_of lease; low = c.self.inside.low; frames = fs } in s) (all.1 ∙ rest))
+    (ap₂ (λ (fs : List Frame) (bytes : List ℕ). let s : Stored = record { held = held_of lease; low = c.self.inside.low; frames = fs; beside = bytes } in s) (all.1 ∙ rest) beside)

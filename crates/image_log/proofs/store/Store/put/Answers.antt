@@ -4,6 +4,8 @@ use Rattle.image_log.specs.Order.{Ordered}
 use Rattle.image_log.specs.Stored.{Stored, held_of}
 use Rattle.image_log.specs.Writing.{written}
 use Rattle.image_log.specs.declared.place.Place.{Place}
+use Rattle.log_arena.specs.Lease.{with_bytes}
+use Rattle.image_log.proofs.Beside.{store_beside}
 use Rattle.image_log.proofs.Found.{counted, put_all, put_room, put_store}
 use Rattle.std.proofs.Common.{refl}
 use Rattle.std.specs.List.{insert}
@@ -50,5 +52,8 @@ returns c =
     c.write_at.ensures ∙ ap₂ (λ (n : ℕ) (l : List ℕ). written n c.args.bytes.now l) (c.start_in-start.ensures ∙ ap (λ (k : ℕ). c.args.position % k) c.len.ensures) c.bytes_mut.ensures.value in
     let all = put_all c.self.inside.lease c.self.inside.low c.args.at c.args.bytes.now c.write_at.new.out ps _ p c.self.invariant.0.fits here refl c.requires.size whole order
     c.self.inside.lease.bytes.ok.0 c.self.inside.lease.housed.some now c.put_in.ensures.items in
+    let after = put_store c.self.inside.lease c.self.inside.low c.args.at _ _ c.args.bytes.now c.write_at.new.out ps _ p c.self.invariant.0 here refl c.requires.size whole order
+    c.self.inside.lease.bytes.ok.0 c.self.inside.lease.housed.some now c.put_in.ensures.items c.put_in.ensures.capacity in
+    let beside = store_beside (with_bytes c.self.inside.lease c.write_at.new.out) c.self.inside.low _ _ after ∙ sym (store_beside c.self.inside.lease c.self.inside.low _ ps c.self.invariant.0) in
     rw (← c.self.view_is)
-    (ap (λ (fs : List Frame). let s : Stored = record { held = held_of c.self.inside.lease; low = c.self.inside.low; frames = fs } in s) all.1)
+    (ap₂ (λ (fs : List Frame) (bytes : List ℕ). let s : Stored = record { held = held_of c.self.inside.lease; low = c.self.inside.low; frames = fs; beside = bytes } in s) all.1 beside)
