@@ -1,4 +1,5 @@
 ghost use Rattle.any_log.specs.Held.{made_held, place_held};
+ghost use Rattle.any_log.specs.Layout.{HasLayout};
 ghost use Rattle.any_log.specs.Whole.{HasWhole};
 ghost use Rattle.driver_steps.specs.declared.answer.Answer.TheVariants.{Gone, Offered as OfferedAs};
 ghost use Rattle.driver_steps.specs.declared.answer.Offered.TheVariants.{Closed};
@@ -113,10 +114,13 @@ impl<N: Naming> LogSlot<N> {
     }
 
     /// What holds whenever the lock is free: a log that is open has the slot's number, is made for its session and stream, lies
-    /// in the region that `N` names, stands for a whole log, and has learnt no address twice, and 32 at most.
+    /// in the region that `N` names, stands for a whole log, and has learnt no address twice, and 32 at most. No two of its frames
+    /// meet, each names its session and stream, beside them are zeros, and each reader stands where a frame begins, or as far as
+    /// the log reaches.
     pub fn holds(&self)
         ensures own { IsSlot N.home self.now.source self.now.session self.now.stream self.now.log }
         ensures whole { IfSome self.now.log (λ held. HasWhole held.log) }
+        ensures layout { IfSome self.now.log (λ held. HasLayout held.log) }
         ensures learnt { IfSome self.now.log (λ held. AreOrderly held.recovery.learnt) }
     {
         if let Some(log) = &self.log {

@@ -1,4 +1,5 @@
 ghost use Rattle.any_log.specs.Held.{made_held, messages_held, place_held};
+ghost use Rattle.any_log.specs.Layout.{HasLayout};
 ghost use Rattle.any_log.specs.Whole.{HasWhole};
 ghost use Rattle.driver_steps.specs.declared.answer.Answer.TheVariants.{Gone, Offered as OfferedAs};
 ghost use Rattle.driver_steps.specs.declared.answer.Offered.TheVariants.{Closed};
@@ -89,6 +90,7 @@ impl<N: Naming> Slot<N> {
     pub fn holds(&self)
         ensures own { IsSlot N.home self.now.kept.source self.now.kept.session self.now.kept.stream self.now.kept.log }
         ensures whole { IfSome self.now.kept.log (λ held. HasWhole held.log) }
+        ensures layout { IfSome self.now.kept.log (λ held. HasLayout held.log) }
         ensures learnt { IfSome self.now.kept.log (λ held. AreOrderly held.recovery.learnt) }
         ensures counts { IsCounted self.now }
     {

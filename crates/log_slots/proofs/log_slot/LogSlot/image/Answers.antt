@@ -17,7 +17,7 @@ returns-clause-messages g c =
     let move = for_source c.args.source (image_move (g.V.View.shows c.args.view.now) c.args.now) Gone in
     let here : c.args.self.now.log ≡ Some held = search rules in
     either_way (λ (answer : Answer). Does move held after answer) (after ≡ held) (messages_held after.log ≡ messages_held held.log)
-    (λ answer does. held_keeps move held after answer does c.has_whole.ensures (gated_keeps c.args.source (image_move (g.V.View.shows c.args.view.now) c.args.now) Gone (image_keeps (g.V.View.shows c.args.view.now) c.args.now)))
+    (λ answer does. held_keeps move held after answer does c.has_whole.ensures.whole (gated_keeps c.args.source (image_move (g.V.View.shows c.args.view.now) c.args.now) Gone (image_keeps (g.V.View.shows c.args.view.now) c.args.now)))
     (λ same. ap (λ (h : HeldLog). messages_held h.log) same)
     c.image_step.result c.image_step.ensures.does c.image_step.ensures.err
     ∙ sym (ap messages_in here)

@@ -26,7 +26,7 @@ returns-clause-messages g c =
     let move = packet_move c.args.now c.args.from.now c.args.request.now (content c.args.packet) in
     let here : c.args.self.now.log ≡ Some held = search rules in
     either_way (λ (told : Told). Does move held after told.answer) (after ≡ held) (messages_held after.log ≡ messages_held held.log)
-    (λ told does. held_keeps move held after told.answer does c.has_whole.ensures (packet_keeps c.args.now c.args.from.now c.args.request.now (content c.args.packet)))
+    (λ told does. held_keeps move held after told.answer does c.has_whole.ensures.whole (packet_keeps c.args.now c.args.from.now c.args.request.now (content c.args.packet)))
     (λ same. ap (λ (h : HeldLog). messages_held h.log) same)
     c.packet_step.result c.packet_step.ensures.does c.packet_step.ensures.err
     ∙ sym (ap messages_in here)

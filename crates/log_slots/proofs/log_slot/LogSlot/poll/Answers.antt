@@ -16,7 +16,7 @@ returns-clause-messages g c =
     let move = for_source c.args.source (poll_move (g.V.View.shows c.args.view.now) c.args.client c.args.subscription c.args.limit) Gone in
     let here : c.args.self.now.log ≡ Some held = search rules in
     either_way (λ (told : Told). Does move held after told.answer) (after ≡ held) (messages_held after.log ≡ messages_held held.log)
-    (λ told does. held_keeps move held after told.answer does c.has_whole.ensures (gated_keeps c.args.source (poll_move (g.V.View.shows c.args.view.now) c.args.client c.args.subscription c.args.limit) Gone (poll_keeps (g.V.View.shows c.args.view.now) c.args.client c.args.subscription c.args.limit)))
+    (λ told does. held_keeps move held after told.answer does c.has_whole.ensures.whole (gated_keeps c.args.source (poll_move (g.V.View.shows c.args.view.now) c.args.client c.args.subscription c.args.limit) Gone (poll_keeps (g.V.View.shows c.args.view.now) c.args.client c.args.subscription c.args.limit)))
     (λ same. ap (λ (h : HeldLog). messages_held h.log) same)
     c.poll_step.result c.poll_step.ensures.does c.poll_step.ensures.err
     ∙ sym (ap messages_in here)
