@@ -10,12 +10,12 @@ use command_queue::Taker;
 use driver_core::{Address, Event};
 use log_arena::Arena;
 use log_slots::Region;
-use media_agents::{Conductor, Desk, DriverNaming, Ring, Rings, Slots, Steps, Works};
+use media_agents::{Conductor, DeskAnswers, DriverNaming, Ring, Rings, Slots, Steps, Works};
 use published_registry::{Pass, Publisher};
 use rows::Rows;
 use rtrb::RingBuffer;
 use std::alloc::{AllocError, Global};
-use std::sync::{Arc, Mutex, Wait};
+use std::sync::{Arc, Wait};
 
 // One ring, whose replies nobody takes.
 fn rings<N: DriverNaming>(alloc: Global) -> Result<Rings<N>, AllocError> {
@@ -115,7 +115,9 @@ impl<N: DriverNaming> Outfit<N> {
             room,
         } = store;
         let Common { slots, desk, gate } = common;
-        let works = Works::new(publisher, rings, desk, region, slots, notes, room, alloc);
+        let desk = DeskAnswers::new(desk);
+        let logs = Steps::new(slots);
+        let works = Works::new(publisher, rings, desk, region, logs, notes, room, alloc);
         Driver {
             conductor: Conductor::new(taker, works, gate),
             hand,
@@ -126,7 +128,7 @@ impl<N: DriverNaming> Outfit<N> {
 
 // It can't be let go: its conductor ends its registry.
 pub struct Driver<N: DriverNaming> {
-    pub conductor: Conductor<N, Slots<N>, Mutex<Desk<N>>, Steps<N>, Open>,
+    pub conductor: Conductor<N, Steps<N>, DeskAnswers<N>, Steps<N>, Open>,
     pub hand: Hand<N>,
     pub slots: Arc<Slots<N>>,
 }

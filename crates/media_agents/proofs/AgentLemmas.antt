@@ -1,14 +1,14 @@
 -- Turns of the agents of the wire, part by part.
 use Rattle.std.proofs.Common.{◌≡◌, ℕ, List, ◌++◌, ap, ap₂, ◌∙◌}
 use Rattle.channel_uri.specs.declared.address.Address.{Address}
-use Rattle.media_agents.specs.Acts.{Access, Act, Alone, GoesOn, Then, Trail}
+use Rattle.media_agents.specs.Acts.{Access, Act, Alone, Chain, GoesOn, Then, Trail}
 use Rattle.media_agents.specs.Agents.{Lists, Receives, Sends}
 use Rattle.media_agents.specs.declared.listing.ImageAt.{ImageAt}
 use Rattle.media_agents.specs.declared.slots.LogAt.{LogAt}
 use Rattle.media_agents.specs.Eliciting.{Eliciting, Elicits}
 use Rattle.media_agents.specs.Finding.{AreControls, AreEndpoints, images_of, publications_of}
 use Rattle.media_agents.specs.SetUps.{SettingUp}
-use Rattle.media_agents.specs.Traffic.{Chain, HearsOut, ReceiverTakes, ReportsOne, SenderTakes, SendsRun}
+use Rattle.media_agents.specs.Traffic.{HearsOut, ReceiverTakes, ReportsOne, SenderTakes, SendsRun}
 use Rattle.media_agents.proofs.ActLemmas.{alone, goes_on, goes_then}
 use Rattle.media_wire.specs.Events.{Event}
 use Rattle.published_registry.specs.Histories.{History}

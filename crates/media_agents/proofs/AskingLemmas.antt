@@ -1,59 +1,112 @@
 -- One more of those that are asked in order; and a slot that is not there.
-use Rattle.std.proofs.Common.{◌≡◌, ◌+◌, ◌<◌, ◌≤◌, ◌==◌, ℕ, ℤ, Bool, true, false, All, List, [], ◌∷◌, ◌++◌, Option, Some, None, Result, Ok, Err, IfErr, OnOk, ap, cond, get_or, length, max, pos, refl, subst, sym, take, ◌∙◌}
+use Rattle.std.proofs.Common.{◌≡◌, arith, ◌+◌, ◌<◌, ◌≤◌, ◌==◌, ℕ, ℤ, Bool, true, false, All, List, [], ◌∷◌, ◌++◌, Option, Some, None, Result, Ok, Err, IfErr, OnErr, OnOk, ap, cond, get_or, length, max, pos, refl, subst, sym, take, ◌∙◌}
 use Rattle.std.proofs.lemmas.List.{append-nil, take_all, take_more}
 use Rattle.std.proofs.lemmas.List.Elements.{All-append, All-cons, All-nil, filter_map-append}
 use Rattle.std.specs.Prelude.{filter_map}
+use Rattle.driver_core.specs.declared.event.End.{End}
+use Rattle.driver_core.specs.declared.event.Event.{Event}
+use Rattle.driver_core.specs.declared.event.Event.TheVariants.{Attach, Command, Reload, Setup, Tick}
 use Rattle.driver_core.specs.State.{State, at_moment}
 use Rattle.driver_steps.specs.Held.{HeldLog}
 use Rattle.log_arena.specs.Homes.{Home}
 use Rattle.log_slots.specs.Counting.{SlotCount}
 use Rattle.log_slots.specs.Slots.{IsSlot, SlotLog, is_silent_by, log_of, reach_by, with_readers, without_log}
 use Rattle.media_agents.specs.declared.slots.LogAt.{LogAt}
-use Rattle.media_agents.specs.Asking.{AreSilentAt, Closes, Gathers, IsHold, Opens, Refuses, Rejoins, SaysSilent, SilenceOf, with_answer, with_log, without}
+use Rattle.media_agents.specs.Acts.{Access, Chain, GoesOn, held}
+use Rattle.media_agents.specs.Asking.{AreSilent, AreSilentAt, Asks, Closes, Gathers, IsHold, Joins, JoinsSome, LeavesIt, Opens, Refuses, Rejoins, SaysSilent, SilenceOf, SilenceOfKind, with_log}
+use Rattle.media_agents.specs.Finding.{log_at}
+use Rattle.media_agents.proofs.ActLemmas.{goes_on, goes_on_as}
+use Rattle.media_agents.proofs.ChainLemmas.{chain_on}
+use Rattle.stream_registry.specs.declared.pairs.Pair.{Pair}
 use Rattle.stream_registry.specs.declared.row.Source.{Source}
+use Rattle.stream_registry.specs.Origins.{is_published}
 
-module _ {A B : Type 0} (Says : A → Option B → Type 0) where
-  gathers_answer : (ones : List A) (answers : List B) (one : A) (answer : B) → Gathers Says ones answers → Says one (Some answer) →
-      Gathers Says (ones ++ one ∷ []) (answers ++ answer ∷ [])
-  gathers_answer [] answers one answer is said = with_answer answer [] said (ap (λ (all : List B). all ++ answer ∷ []) is) refl
-  gathers_answer (first ∷ ones) answers one answer (without none rest) said = without none (gathers_answer ones answers one answer rest said)
-  gathers_answer (first ∷ ones) answers one answer (with_answer early rest before is more) said =
-      with_answer early (rest ++ answer ∷ []) before (ap (λ (all : List B). all ++ answer ∷ []) is) (gathers_answer ones rest one answer more said)
+-- what is said of each failure holds where that does
+pub on_err : {T E : Type 0} (A : Type 0) (result : Result T E) → A → OnErr result A
+on_err A (Ok it) holds = tt
+on_err A (Err why) holds = holds
 
-  gathers_none : (ones : List A) (answers : List B) (one : A) → Gathers Says ones answers → Says one None → Gathers Says (ones ++ one ∷ []) answers
-  gathers_none [] answers one is said = without said is
-  gathers_none (first ∷ ones) answers one (without none rest) said = without none (gathers_none ones answers one rest said)
-  gathers_none (first ∷ ones) answers one (with_answer early rest before is more) said =
-      with_answer early rest before is (gathers_none ones rest one more said)
+module _ {A B : Type 0} (Says : A → Option B → List Access → Type 0) where
+  pub answered_next : (all : List A) (at : ℕ) (d : A) (old new : List B) (answer : B) (first between last : List Access → Type 0) → at < length all
+      → GoesOn (Gathers Says (take at all) old) first between → GoesOn (Says (get_or all at d) (Some answer)) between last → new ≡ old ++ answer ∷ []
+      → GoesOn (Gathers Says (take (at + 1) all) new) first last
+  answered_next all at d old new answer first between last within before said more =
+      chain_on (Asks Says) all at d [] old new first between last within before
+      (goes_on_as (Says (get_or all at d) (Some answer)) (Asks Says (get_or all at d) old new) between last (λ a one. (Some answer, one, more)) said)
 
-  pub answered_next : (all : List A) (at : ℕ) (d : A) (old new : List B) (answer : B) → at < length all →
-      Gathers Says (take at all) old → Says (get_or all at d) (Some answer) → new ≡ old ++ answer ∷ [] → Gathers Says (take (at + 1) all) new
-  answered_next all at d old new answer within before said more =
-      subst (λ (ones : List A). Gathers Says ones new) (sym (take_more all at d within))
-      (subst (λ (answers : List B). Gathers Says (take at all ++ get_or all at d ∷ []) answers) (sym more)
-      (gathers_answer (take at all) old (get_or all at d) answer before said))
+  pub none_next : (all : List A) (at : ℕ) (d : A) (old : List B) (first between last : List Access → Type 0) → at < length all
+      → GoesOn (Gathers Says (take at all) old) first between → GoesOn (Says (get_or all at d) None) between last
+      → GoesOn (Gathers Says (take (at + 1) all) old) first last
+  none_next all at d old first between last within before said =
+      chain_on (Asks Says) all at d [] old old first between last within before
+      (goes_on_as (Says (get_or all at d) None) (Asks Says (get_or all at d) old old) between last (λ a one. (None, one, refl)) said)
 
-  pub none_next : (all : List A) (at : ℕ) (d : A) (old : List B) → at < length all →
-      Gathers Says (take at all) old → Says (get_or all at d) None → Gathers Says (take (at + 1) all) old
-  none_next all at d old within before said =
-      subst (λ (ones : List A). Gathers Says ones old) (sym (take_more all at d within)) (gathers_none (take at all) old (get_or all at d) before said)
+-- ---- images that are silent
+
+kind_leaves : (kind : Bool) (at : LogAt) (now limit : ℕ) (answer : Option ℕ) (accesses : List Access) → SilenceOfKind kind at now limit answer accesses
+    → All LeavesIt accesses
+kind_leaves true at now limit answer accesses none = subst (All LeavesIt) (sym none.1) (All-nil LeavesIt)
+kind_leaves false at now limit answer accesses asked =
+    subst (All LeavesIt) (sym asked.1.held) (All-cons LeavesIt (held at asked.1.found asked.1.found) [] refl (All-nil LeavesIt))
+
+silence_leaves : (now limit : ℕ) (rows : List Source) (before after : List ℕ) (accesses : List Access)
+    → Chain (Asks (SilenceOf now limit)) rows before after accesses → All LeavesIt accesses
+silence_leaves now limit [] before after accesses none = subst (All LeavesIt) (sym none.1) (All-nil LeavesIt)
+silence_leaves now limit (row ∷ rows) before after accesses (next, first, rest, is, asked, more) =
+    subst (All LeavesIt) (sym is)
+    (All-append LeavesIt first rest (kind_leaves (is_published row) (log_at row) now limit asked.0 first asked.1)
+    (silence_leaves now limit rows next after rest more))
+
+none_left : {A : Type 0} (accesses : List Access) → A × (accesses ≡ []) → All LeavesIt accesses
+none_left accesses none = subst (All LeavesIt) (sym none.1) (All-nil LeavesIt)
+
+pub silent_leaves : (s : State) (event : Event) (silent : List ℕ) (accesses : List Access) → AreSilent s event silent accesses → All LeavesIt accesses
+silent_leaves s (Attach now principal) silent accesses none = none_left accesses none
+silent_leaves s (Command now client bytes) silent accesses none = none_left accesses none
+silent_leaves s (Reload now policy) silent accesses none = none_left accesses none
+silent_leaves s (Tick now) silent accesses asked =
+    silence_leaves (at_moment s now).moment s.settings.image_liveness s.streams.sources [] silent accesses asked
+silent_leaves s (Setup now local from setup) silent accesses none = none_left accesses none
+
+-- asking alone changes nothing
+pub only_asked : (s : State) (event : Event) (silent : List ℕ) (first last : List Access → Type 0) → GoesOn (AreSilent s event silent) first last
+    → GoesOn (All LeavesIt) first last
+only_asked s event silent first last =
+    goes_on_as (AreSilent s event silent) (All LeavesIt) first last (λ a asked. silent_leaves s event silent a asked)
+
+-- one more was asked, and there was no memory for its answer
+pub silence_ends : (now limit : ℕ) (rows : List Source) (silent : List ℕ) (row : Source) (answer : Option ℕ) (first between last : List Access → Type 0)
+    → GoesOn (Gathers (SilenceOf now limit) rows silent) first between → GoesOn (SilenceOf now limit row answer) between last
+    → GoesOn (All LeavesIt) first last
+silence_ends now limit rows silent row answer first between last =
+    goes_on (Gathers (SilenceOf now limit) rows silent) (SilenceOf now limit row answer) (All LeavesIt) first between last
+    (λ a b asked one. All-append LeavesIt a b (silence_leaves now limit rows [] silent a asked) (kind_leaves (is_published row) (log_at row) now limit answer b one))
 
 -- the images that are silent at a moment, once all rows were asked
-pub all_asked : (Held : LogAt → SlotLog → SlotLog → Type 0) (s : State) (now moment limit : ℕ) (rows : List Source) (n : ℕ) (silent : List ℕ) →
+pub all_asked : (s : State) (now moment limit : ℕ) (rows : List Source) (n : ℕ) (silent : List ℕ) (first last : List Access → Type 0) →
     moment ≡ max s.moment now → limit ≡ s.settings.image_liveness → rows ≡ s.streams.sources → length rows ≤ n →
-    Gathers (SilenceOf Held moment limit) (take n rows) silent → AreSilentAt Held s now silent
+    GoesOn (Gathers (SilenceOf moment limit) (take n rows) silent) first last → GoesOn (AreSilentAt s now silent) first last
 unfolding at_moment
-all_asked Held s now moment limit rows n silent moment_is limit_is rows_are all asked =
-    subst (λ (m : ℕ). Gathers (SilenceOf Held m s.settings.image_liveness) s.streams.sources silent) moment_is
-    (subst (λ (l : ℕ). Gathers (SilenceOf Held moment l) s.streams.sources silent) limit_is
-    (subst (λ (those : List Source). Gathers (SilenceOf Held moment limit) those silent) (take_all n rows all ∙ rows_are) asked))
+all_asked s now moment limit rows n silent first last moment_is limit_is rows_are all asked =
+    subst (λ (m : ℕ). GoesOn (Gathers (SilenceOf m s.settings.image_liveness) s.streams.sources silent) first last) moment_is
+    (subst (λ (l : ℕ). GoesOn (Gathers (SilenceOf moment l) s.streams.sources silent) first last) limit_is
+    (subst (λ (those : List Source). GoesOn (Gathers (SilenceOf moment limit) those silent) first last) (take_all n rows all ∙ rows_are) asked))
 
--- one more of those of which that holds
-pub all_next : {A : Type 0} (P : A → Type 0) (all : List A) (at : ℕ) (d : A) → at < length all → All P (take at all) → P (get_or all at d) →
-    All P (take (at + 1) all)
-all_next P all at d within before here =
-    subst (All P) (sym (take_more all at d within))
-    (All-append P (take at all) (get_or all at d ∷ []) before (All-cons P (get_or all at d) [] here (All-nil P)))
+-- ---- pairs that come
+
+-- as many were joined
+pub joins_some : (s : State) (come : List Pair) (count : ℕ) (ends : List End) (first last : List Access → Type 0)
+    → GoesOn (Gathers (Joins s come) (take count come) ends) first last → GoesOn (JoinsSome s come) first last
+joins_some s come count ends first last =
+    goes_on_as (Gathers (Joins s come) (take count come) ends) (JoinsSome s come) first last
+    (λ a joins. record { count = count; ends = ends; joins = joins })
+
+-- all were
+pub joins_all : (s : State) (come : List Pair) (ends : List End) (first last : List Access → Type 0)
+    → GoesOn (Gathers (Joins s come) come ends) first last → GoesOn (JoinsSome s come) first last
+joins_all s come ends first last joined =
+    joins_some s come (length come) ends first last
+    (subst (λ (those : List Pair). GoesOn (Gathers (Joins s come) those ends) first last) (sym (take_all (length come) come (omega arith))) joined)
 
 -- ---- one more of those that are found
 

@@ -3,31 +3,31 @@ use Rattle.std.proofs.Common.{◌≡◌, ℕ, ◌+◌, ◌<◌, List, [], ◌∷
 use Rattle.std.proofs.lemmas.List.{append-nil, length-append, take_more}
 use Rattle.std.proofs.lemmas.List.Elements.{All-append, All-cons, All-nil}
 use Rattle.channel_uri.specs.declared.address.Address.{Address}
-use Rattle.media_agents.specs.Acts.{Act, GoesOn}
-use Rattle.media_agents.specs.Traffic.{Chain, HearsOut, IsReading}
+use Rattle.media_agents.specs.Acts.{Act, Chain, Each, GoesOn}
+use Rattle.media_agents.specs.Traffic.{HearsOut, IsReading}
 use Rattle.media_agents.proofs.ActLemmas.{goes_on, goes_on_as, stays}
 use Rattle.media_wire.specs.declared.letter.Letter.{Letter}
 use Rattle.std.specs.Prelude.{None}
 
-module _ {S X : Type 0} (Does : X → S → S → List Act → Type 0) where
+module _ {A S X : Type 0} (Does : X → S → S → List A → Type 0) where
   -- one more
-  pub chain_more : (before : List X) (one : X) (s t u : S) (a b : List Act) → Chain Does before s t a → Does one t u b
+  pub chain_more : (before : List X) (one : X) (s t u : S) (a b : List A) → Chain Does before s t a → Does one t u b
       → Chain Does (before ++ one ∷ []) s u (a ++ b)
   chain_more [] one s t u a b none does =
-      (u, b, [], ap (λ (a : List Act). a ++ b) none.1 ∙ sym (append-nil b), subst (λ (t : S). Does one t u b) none.0 does, (refl, refl))
+      (u, b, [], ap (λ (a : List A). a ++ b) none.1 ∙ sym (append-nil b), subst (λ (t : S). Does one t u b) none.0 does, (refl, refl))
   chain_more (first ∷ before) one s t u a b chain does = (
     chain.0,
     chain.1,
     chain.2 ++ b,
-    ap (λ (a : List Act). a ++ b) chain.3 ∙ append_assoc chain.1 chain.2 b,
+    ap (λ (a : List A). a ++ b) chain.3 ∙ append_assoc chain.1 chain.2 b,
     chain.4,
     chain_more before one chain.0 t u chain.2 b chain.5 does,
   )
 
-  pub chain_none : (s : S) (old : List Act → Type 0) → GoesOn (Chain Does [] s s) old old
+  pub chain_none : (s : S) (old : List A → Type 0) → GoesOn (Chain Does [] s s) old old
   chain_none s old = stays (Chain Does [] s s) old (refl, refl)
 
-  pub chain_then : (before : List X) (one : X) (s t u : S) (old between new : List Act → Type 0)
+  pub chain_then : (before : List X) (one : X) (s t u : S) (old between new : List A → Type 0)
       → GoesOn (Chain Does before s t) old between → GoesOn (Does one t u) between new
       → GoesOn (Chain Does (before ++ one ∷ []) s u) old new
   chain_then before one s t u old between new =
@@ -35,12 +35,21 @@ module _ {S X : Type 0} (Does : X → S → S → List Act → Type 0) where
       (λ a b chain does. chain_more before one s t u a b chain does)
 
   -- one more of a list
-  pub chain_on : (all : List X) (at : ℕ) (one : X) (s t u : S) (old between new : List Act → Type 0) → at < length all
+  pub chain_on : (all : List X) (at : ℕ) (one : X) (s t u : S) (old between new : List A → Type 0) → at < length all
       → GoesOn (Chain Does (take at all) s t) old between → GoesOn (Does (get_or all at one) t u) between new
       → GoesOn (Chain Does (take (at + 1) all) s u) old new
   chain_on all at one s t u old between new within first then =
       subst (λ (xs : List X). GoesOn (Chain Does xs s u) old new) (sym (take_more all at one within))
       (chain_then (take at all) (get_or all at one) s t u old between new first then)
+
+pub each_none : {A X : Type 0} (Does : X → List A → Type 0) (old : List A → Type 0) → GoesOn (Each Does []) old old
+each_none {A} {X} Does old = chain_none (λ (x : X) (before after : Unit {0}). Does x) tt old
+
+-- one more, which leaves no state
+pub each_next : {A X : Type 0} (Does : X → List A → Type 0) (all : List X) (at : ℕ) (one : X) (old between new : List A → Type 0) → at < length all
+    → GoesOn (Each Does (take at all)) old between → GoesOn (Does (get_or all at one)) between new → GoesOn (Each Does (take (at + 1) all)) old new
+each_next {A} {X} Does all at one old between new =
+    chain_on (λ (x : X) (before after : Unit {0}). Does x) all at one tt tt tt old between new
 
 -- ---- datagrams that came to an address
 

@@ -3,10 +3,10 @@ use Rattle.std.proofs.Common.{◌≡◌, ℕ, ◌+◌, ◌<◌, true, false, Lis
 use Rattle.std.proofs.lemmas.List.{append-nil, length-append}
 use Rattle.std.proofs.lemmas.List.Elements.{All-append, All-cons, All-nil}
 use Rattle.channel_uri.specs.declared.address.Address.{Address}
-use Rattle.media_agents.specs.Acts.{Act, GoesOn}
+use Rattle.media_agents.specs.Acts.{Act, Chain, GoesOn}
 use Rattle.media_agents.specs.declared.slots.LogAt.{LogAt}
 use Rattle.media_agents.specs.declared.stepping.Stepped.{Stepped}
-use Rattle.media_agents.specs.Traffic.{Chain, SendsOne, SendsRun, was_due}
+use Rattle.media_agents.specs.Traffic.{SendsOne, SendsRun, was_due}
 use Rattle.media_agents.proofs.ChainLemmas.{chain_more}
 use Rattle.media_agents.proofs.ActLemmas.{goes_on, goes_on_as, stays}
 use Rattle.published_registry.specs.Histories.{History}

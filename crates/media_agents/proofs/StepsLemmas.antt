@@ -1,20 +1,21 @@
 -- The accesses of an agent of a driver: each hold finds and leaves what a slot's lock guards.
-use Rattle.std.proofs.Common.{◌≡◌, ℕ, List, [], ◌∷◌, Option, None, Some, inl, inr, refl, subst, sym, All}
+use Rattle.std.proofs.Common.{◌≡◌, ℕ, ℤ, Bool, List, [], ◌∷◌, Option, None, Some, inl, inr, refl, subst, sym, All}
 use Rattle.std.proofs.lemmas.List.Elements.{All-append, All-cons, All-nil}
 use Rattle.std.specs.Prelude.{⊤, Result, Ok, Err, IfSome}
 use Rattle.channel_uri.specs.declared.address.Address.{Address}
 use Rattle.driver_core.specs.declared.image_request.Astray.{Astray}
 use Rattle.driver_steps.specs.declared.answer.Answer.TheVariants.{Gone}
 use Rattle.driver_steps.specs.declared.packets.PacketRequest.{PacketRequest}
+use Rattle.driver_steps.specs.Held.{HeldLog}
 use Rattle.driver_steps.specs.Moves.{Move, WholeLog, for_source}
 use Rattle.driver_steps.specs.Packets.{packet_request}
 use Rattle.driver_steps.specs.Reporting.{image_move}
 use Rattle.driver_steps.specs.Sending.{send_move}
 use Rattle.frame_codec.specs.Datagram.{Content}
 use Rattle.log_arena.specs.Homes.{Home}
-use Rattle.log_slots.specs.Slots.{SlotLog}
+use Rattle.log_slots.specs.Slots.{SlotLog, with_readers, without_log}
 use Rattle.media_agents.specs.Acts.{Access, GoesOn, Writes, held, kept, lacked, looked}
-use Rattle.media_agents.specs.Asking.{IsHold}
+use Rattle.media_agents.specs.Asking.{Closes, IsAt, IsHold, Opens, Rejoins, SaysSilent, with_log}
 use Rattle.media_agents.specs.declared.journal.Journal.{Journal}
 use Rattle.media_agents.specs.declared.journal.Stamp.{Stamp}
 use Rattle.media_agents.specs.declared.slots.LogAt.{LogAt}
@@ -45,6 +46,41 @@ module _ (home : Home) where
   pub writes_known : (change : Journal → Journal) → GoesOn (Writes change) Known Known
   writes_known change =
       knows (Writes change) (kept blank (change blank) ∷ []) (blank, refl) (and_known (kept blank (change blank)) [] tt none_known)
+
+  -- ---- what the conductor asks of logs, each in one hold
+
+  one_known : (at : LogAt) (found left : SlotLog) → IsHold home found left → Known (held at found left ∷ [])
+  one_known at found left holds = and_known (held at found left) [] holds none_known
+
+  pub rejoins_known : (at : LogAt) (source : ℕ) (subscriptions : List ℕ) (position : Option ℕ) → Rejoins (IsHold home) source subscriptions position
+      → GoesOn (λ (accesses : List Access). Rejoins (IsAt at accesses) source subscriptions position) Known Known
+  rejoins_known at source subscriptions position it =
+      let left = with_readers source subscriptions it.found in
+      knows (λ (accesses : List Access). Rejoins (IsAt at accesses) source subscriptions position) (held at it.found left ∷ [])
+      (record { found = it.found; held = refl; position_is = it.position_is }) (one_known at it.found left it.held)
+
+  pub says_known : (at : LogAt) (source now limit : ℕ) (silent : Bool) → SaysSilent (IsHold home) source now limit silent
+      → GoesOn (λ (accesses : List Access). SaysSilent (IsAt at accesses) source now limit silent) Known Known
+  says_known at source now limit silent it =
+      knows (λ (accesses : List Access). SaysSilent (IsAt at accesses) source now limit silent) (held at it.found it.found ∷ [])
+      (record { found = it.found; held = refl; silent_is = it.silent_is }) (one_known at it.found it.found it.held)
+
+  pub closes_known : (at : LogAt) (source : ℕ) (log : Option HeldLog) → Closes (IsHold home) source log
+      → GoesOn (λ (accesses : List Access). Closes (IsAt at accesses) source log) Known Known
+  closes_known at source log it =
+      let left = without_log source it.found in
+      knows (λ (accesses : List Access). Closes (IsAt at accesses) source log) (held at it.found left ∷ [])
+      (record { found = it.found; held = refl; log_is = it.log_is }) (one_known at it.found left it.held)
+
+  pub opens_known : (at : LogAt) (session stream : ℤ) (log : HeldLog) (result : Result Unit HeldLog) → Opens (IsHold home) session stream log result
+      → GoesOn (λ (accesses : List Access). Opens (IsAt at accesses) session stream log result) Known Known
+  opens_known at session stream log (Ok done) it =
+      let left = with_log session stream log in
+      knows (λ (accesses : List Access). Opens (IsAt at accesses) session stream log (Ok done)) (held at it.found left ∷ [])
+      (record { found = it.found; held = refl; free = it.free }) (one_known at it.found left it.held)
+  opens_known at session stream log (Err back) it =
+      knows (λ (accesses : List Access). Opens (IsAt at accesses) session stream log (Err back)) (held at it.found it.found ∷ [])
+      (record { found = it.found; held = refl; back_is = it.back_is }) (one_known at it.found it.found it.held)
 
   -- ---- turns
 

@@ -43,6 +43,18 @@ module _ {A : Type 0} where
   abbrev pub Then : (List A → Type 0) → (List A → Type 0) → List A → Type 0
   Then First Next all = (first : List A) × (next : List A) × (all ≡ first ++ next) × First first × Next next
 
+module _ {A S X : Type 0} where
+  -- one after another, each of these did that, from one state to the next, by these acts
+  abbrev pub Chain : (X → S → S → List A → Type 0) → List X → S → S → List A → Type 0
+  Chain Does [] before after acts = (after ≡ before) × (acts ≡ [])
+  Chain Does (one ∷ more) before after acts =
+      (next : S) × (first : List A) × (rest : List A) × (acts ≡ first ++ rest) × Does one before next first × Chain Does more next after rest
+
+module _ {A X : Type 0} where
+  -- each of these did that, in their order
+  abbrev pub Each : (X → List A → Type 0) → List X → List A → Type 0
+  Each Does all acts = Chain (λ (one : X) (before after : Unit {0}). Does one) all tt tt acts
+
 -- those accesses, and no call
 abbrev pub Alone : (List Access → Type 0) → List Act → Type 0
 Alone Does acts = (accesses : List Access) × Does accesses × (acts ≡ map shared accesses)

@@ -4,14 +4,14 @@ use Rattle.channel_uri.specs.declared.address.Address.{Address}
 use Rattle.command_queue.specs.Sent.{Sent}
 use Rattle.driver_core.specs.declared.event.Event.{Event}
 use Rattle.driver_core.specs.State.{State}
-use Rattle.media_agents.specs.Acts.{Access, Act, GoesOn, lacked, looked, shared}
+use Rattle.media_agents.specs.Acts.{Access, Act, Chain, GoesOn, lacked, looked, shared}
 use Rattle.media_agents.specs.declared.gate.Turn.{Turn}
 use Rattle.media_agents.specs.declared.listing.ImageAt.{ImageAt}
 use Rattle.media_agents.specs.declared.slots.LogAt.{LogAt}
 use Rattle.media_agents.specs.Eliciting.{Eliciting, Elicits}
 use Rattle.media_agents.specs.Finding.{AreControls, AreEndpoints, images_of, publications_of}
 use Rattle.media_agents.specs.SetUps.{SettingUp}
-use Rattle.media_agents.specs.Traffic.{Chain, HearsOut, ReceiverTakes, ReportsOne, SenderTakes, SendsRun}
+use Rattle.media_agents.specs.Traffic.{HearsOut, ReceiverTakes, ReportsOne, SenderTakes, SendsRun}
 use Rattle.published_registry.specs.Histories.{History, IsContinuedBy, registry_of}
 
 -- the sender: its steps on the logs and the journal, from where it sends, the registries up to the last that it looked at or learned of, the greatest

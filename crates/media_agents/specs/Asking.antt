@@ -1,4 +1,4 @@
--- What logs answer the conductor, each asked under the lock of its slot. Own rules.
+-- What logs answer the conductor, each asked under the lock of its slot, one after another. Own rules.
 use Rattle.std.specs.Prelude.{◌≡◌, ℕ, ℤ, ◌++◌, Bool, true, false, List, [], ◌∷◌, Option, Some, None, Result, Ok, Err, filter_map, take}
 use Rattle.std.specs.Option.{option_map}
 use Rattle.driver_core.specs.declared.event.End.{End}
@@ -11,6 +11,7 @@ use Rattle.driver_core.specs.State.{State, at_moment}
 use Rattle.driver_steps.specs.Held.{HeldLog}
 use Rattle.log_arena.specs.Homes.{Home}
 use Rattle.log_slots.specs.Slots.{IsSlot, SlotLog, is_silent_in, log_of, reach_in, with_readers, without_log}
+use Rattle.media_agents.specs.Acts.{Access, Chain, held}
 use Rattle.media_agents.specs.declared.slots.LogAt.{LogAt}
 use Rattle.media_agents.specs.Finding.{log_at}
 use Rattle.stream_registry.specs.declared.pairs.Pair.{Pair}
@@ -64,19 +65,30 @@ abbrev pub Opens : (SlotLog → SlotLog → Type 0) → ℤ → ℤ → HeldLog 
 Opens Held session stream log (Ok done) = Takes Held session stream log
 Opens Held session stream log (Err back) = Refuses Held log back
 
+-- the accesses are one hold of that log's lock
+abbrev pub IsAt : LogAt → List Access → SlotLog → SlotLog → Type 0
+IsAt at accesses found left = accesses ≡ held at found left ∷ []
+
+-- the access changed nothing
+abbrev pub LeavesIt : Access → Type 0
+LeavesIt (held at found left) = left ≡ found
+LeavesIt access = Unit {0}
+
 -- ---- one after another
 
-module _ {B : Type 0} where
-  -- one was asked: it had no answer, or the first of these
-  pub data GathersOne (Says : Option B → Type 0) (Rest : List B → Type 0) (answers : List B) : Type 0 where
-    without : Says None → Rest answers → GathersOne Says Rest answers
-    with_answer : (answer : B) → (rest : List B) → Says (Some answer) → answers ≡ answer ∷ rest → Rest rest → GathersOne Says Rest answers
+-- after the answers before it
+abbrev pub with_answer : {B : Type 0} → Option B → List B → List B
+with_answer None answers = answers
+with_answer (Some answer) answers = answers ++ answer ∷ []
 
 module _ {A B : Type 0} where
+  -- one was asked, which may have an answer
+  abbrev pub Asks : (A → Option B → List Access → Type 0) → A → List B → List B → List Access → Type 0
+  Asks Says one before after accesses = (answer : Option B) × Says one answer accesses × (after ≡ with_answer answer before)
+
   -- each of these was asked, in their order, and those are the answers of all that had one
-  abbrev pub Gathers : (A → Option B → Type 0) → List A → List B → Type 0
-  Gathers Says [] answers = answers ≡ []
-  Gathers Says (one ∷ more) answers = GathersOne (Says one) (Gathers Says more) answers
+  abbrev pub Gathers : (A → Option B → List Access → Type 0) → List A → List B → List Access → Type 0
+  Gathers Says all answers = Chain (Asks Says) all [] answers
 
 -- ---- images that are silent
 
@@ -84,26 +96,26 @@ abbrev pub silent_number : ℕ → Bool → Option ℕ
 silent_number source false = None
 silent_number source true = Some source
 
--- the log of an image was asked, and the answer is its number if it is silent; that of a publication never is
-abbrev pub SilenceOfKind : Bool → (SlotLog → SlotLog → Type 0) → ℕ → ℕ → ℕ → Option ℕ → Type 0
-SilenceOfKind true Held source now limit answer = answer ≡ None
-SilenceOfKind false Held source now limit answer =
-    (silent : Bool) × SaysSilent Held source now limit silent × (answer ≡ silent_number source silent)
+-- the log of an image was asked, and the answer is its number if it is silent; that of a publication is not asked
+abbrev pub SilenceOfKind : Bool → LogAt → ℕ → ℕ → Option ℕ → List Access → Type 0
+SilenceOfKind true at now limit answer accesses = (answer ≡ None) × (accesses ≡ [])
+SilenceOfKind false at now limit answer accesses =
+    (silent : Bool) × SaysSilent (IsAt at accesses) at.source now limit silent × (answer ≡ silent_number at.source silent)
 
-abbrev pub SilenceOf : (LogAt → SlotLog → SlotLog → Type 0) → ℕ → ℕ → Source → Option ℕ → Type 0
-SilenceOf Held now limit row answer = SilenceOfKind (is_published row) (Held (log_at row)) row.number now limit answer
+abbrev pub SilenceOf : ℕ → ℕ → Source → Option ℕ → List Access → Type 0
+SilenceOf now limit row answer accesses = SilenceOfKind (is_published row) (log_at row) now limit answer accesses
 
 -- the images of a registry that are silent at that moment, each asked
-abbrev pub AreSilentAt : (LogAt → SlotLog → SlotLog → Type 0) → State → ℕ → List ℕ → Type 0
-AreSilentAt Held s now silent = Gathers (SilenceOf Held (at_moment s now).moment s.settings.image_liveness) s.streams.sources silent
+abbrev pub AreSilentAt : State → ℕ → List ℕ → List Access → Type 0
+AreSilentAt s now silent accesses = Gathers (SilenceOf (at_moment s now).moment s.settings.image_liveness) s.streams.sources silent accesses
 
 -- those that an event closes as silent: a tick alone closes any
-abbrev pub AreSilent : (LogAt → SlotLog → SlotLog → Type 0) → State → Event → List ℕ → Type 0
-AreSilent Held s (Attach now principal) silent = silent ≡ []
-AreSilent Held s (Command now client bytes) silent = silent ≡ []
-AreSilent Held s (Reload now policy) silent = silent ≡ []
-AreSilent Held s (Tick now) silent = AreSilentAt Held s now silent
-AreSilent Held s (Setup now local from setup) silent = silent ≡ []
+abbrev pub AreSilent : State → Event → List ℕ → List Access → Type 0
+AreSilent s (Attach now principal) silent accesses = (silent ≡ []) × (accesses ≡ [])
+AreSilent s (Command now client bytes) silent accesses = (silent ≡ []) × (accesses ≡ [])
+AreSilent s (Reload now policy) silent accesses = (silent ≡ []) × (accesses ≡ [])
+AreSilent s (Tick now) silent accesses = AreSilentAt s now silent accesses
+AreSilent s (Setup now local from setup) silent accesses = (silent ≡ []) × (accesses ≡ [])
 
 -- ---- pairs that come and go
 
@@ -115,22 +127,28 @@ abbrev pub end_at : ℕ → ℕ → End
 end_at source position = record { source = source; position = position }
 
 -- the log is joined by those that come, and the answer is how far it reaches, if it is there and open
-abbrev pub JoinsAt : (LogAt → SlotLog → SlotLog → Type 0) → State → List Pair → ℕ → Option Source → Option End → Type 0
-JoinsAt Held s come source None answer = answer ≡ None
-JoinsAt Held s come source (Some row) answer =
-    (position : Option ℕ) × Rejoins (Held (log_at row)) row.number (readers_with s come source) position × (answer ≡ option_map (end_at source) position)
+abbrev pub JoinsAt : State → List Pair → ℕ → Option Source → Option End → List Access → Type 0
+JoinsAt s come source None answer accesses = (answer ≡ None) × (accesses ≡ [])
+JoinsAt s come source (Some row) answer accesses =
+    (position : Option ℕ) × Rejoins (IsAt (log_at row) accesses) row.number (readers_with s come source) position × (answer ≡ option_map (end_at source) position)
 
-abbrev pub Joins : (LogAt → SlotLog → SlotLog → Type 0) → State → List Pair → Pair → Option End → Type 0
-Joins Held s come pair answer = JoinsAt Held s come pair.source (source_at s.streams.sources pair.source) answer
+abbrev pub Joins : State → List Pair → Pair → Option End → List Access → Type 0
+Joins s come pair answer accesses = JoinsAt s come pair.source (source_at s.streams.sources pair.source) answer accesses
+
+-- so were the first of them, as many as may be
+pub record JoinsSome (s : State) (come : List Pair) (accesses : List Access) : Type 0 where
+  pub count : ℕ
+  pub ends : List End
+  pub joins : Gathers (Joins s come) (take count come) ends accesses
 
 -- the log is read by those that the registry says, if it is there
-abbrev pub SettlesAt : (LogAt → SlotLog → SlotLog → Type 0) → State → ℕ → Option Source → Type 0
-SettlesAt Held s source None = Unit {0}
-SettlesAt Held s source (Some row) =
-    (position : Option ℕ) × Rejoins (Held (log_at row)) row.number (readers_of (pairs_of s) source) position
+abbrev pub SettlesAt : State → ℕ → Option Source → List Access → Type 0
+SettlesAt s source None accesses = accesses ≡ []
+SettlesAt s source (Some row) accesses =
+    (position : Option ℕ) × Rejoins (IsAt (log_at row) accesses) row.number (readers_of (pairs_of s) source) position
 
-abbrev pub Settles : (LogAt → SlotLog → SlotLog → Type 0) → State → Pair → Type 0
-Settles Held s pair = SettlesAt Held s pair.source (source_at s.streams.sources pair.source)
+abbrev pub Settles : State → Pair → List Access → Type 0
+Settles s pair accesses = SettlesAt s pair.source (source_at s.streams.sources pair.source) accesses
 
 -- ---- logs that close
 
@@ -143,8 +161,8 @@ abbrev pub closing : State → List LogPlace → List LogAt
 closing s closes = filter_map (closing_at s) closes
 
 -- a hold of its lock closed the log, if it was open there
-abbrev pub IsClosed : (LogAt → SlotLog → SlotLog → Type 0) → LogAt → Type 0
-IsClosed Held at = (log : Option HeldLog) × Closes (Held at) at.source log
+abbrev pub IsClosed : LogAt → List Access → Type 0
+IsClosed at accesses = (log : Option HeldLog) × Closes (IsAt at accesses) at.source log
 
-abbrev pub IsRowClosed : (LogAt → SlotLog → SlotLog → Type 0) → Source → Type 0
-IsRowClosed Held row = IsClosed Held (log_at row)
+abbrev pub IsRowClosed : Source → List Access → Type 0
+IsRowClosed row accesses = IsClosed (log_at row) accesses

@@ -1,5 +1,5 @@
 -- What follows an entry: a log opens, the pairs go that it takes away, and logs close. Own rules.
-use Rattle.std.specs.Prelude.{◌≡◌, ℕ, ◌*◌, ◌/◌, Bool, true, false, List, [], ◌∷◌, All, Option, Some, None}
+use Rattle.std.specs.Prelude.{◌≡◌, ℕ, ◌*◌, ◌/◌, Bool, true, false, List, [], All, Option, Some, None}
 use Rattle.any_log.specs.Held.{place_held}
 use Rattle.driver_core.specs.Conduct.{outcome_of}
 use Rattle.driver_core.specs.declared.entry.Entry.{Entry}
@@ -13,8 +13,8 @@ use Rattle.driver_steps.specs.Opening.{IsRoomFor, memory_of}
 use Rattle.log_arena.specs.Homes.{Home}
 use Rattle.log_arena.specs.Pages.{IsLeastPlace, marked}
 use Rattle.log_slots.specs.Opening.{OpensAs}
-use Rattle.log_slots.specs.Slots.{SlotLog}
-use Rattle.media_agents.specs.Asking.{AreSilent, Closes, Gathers, Joins, Refuses, Rejoins, Settles, Takes, closing}
+use Rattle.media_agents.specs.Acts.{Access, Chain, Each, Then}
+use Rattle.media_agents.specs.Asking.{AreSilent, Closes, Gathers, IsAt, Joins, JoinsSome, LeavesIt, Refuses, Rejoins, Settles, Takes, closing}
 use Rattle.media_agents.specs.declared.slots.LogAt.{LogAt}
 use Rattle.media_agents.specs.Finding.{log_at}
 use Rattle.stream_registry.specs.declared.lingering.LogPlace.{LogPlace}
@@ -28,15 +28,17 @@ use Rattle.stream_registry.specs.LogPages.{log_pages}
 abbrev pub coming : State → Event → List ℕ → List Pair
 coming s event silent = (outcome_of s event (record { silent = silent; ends = [] })).come
 
--- the entry says which images were silent, each asked, and how far the logs reached, each joined by the pairs that come
-pub record IsAsked (Held : LogAt → SlotLog → SlotLog → Type 0) (s : State) (entry : Entry) : Type 0 where
-  pub silent : AreSilent Held s entry.event entry.inputs.silent
-  pub ends : Gathers (Joins Held s (coming s entry.event entry.inputs.silent)) (coming s entry.event entry.inputs.silent) entry.inputs.ends
+-- each pair that comes with the entry was joined to its log, and the entry says how far these reached
+abbrev pub IsJoined : State → Entry → List Access → Type 0
+IsJoined s entry accesses =
+    Gathers (Joins s (coming s entry.event entry.inputs.silent)) (coming s entry.event entry.inputs.silent) entry.inputs.ends accesses
 
--- No entry was made of the event. Where it was found which pairs would come, those read their logs that the registry says.
-pub data Undoes (Held : LogAt → SlotLog → SlotLog → Type 0) (s : State) (event : Event) : Type 0 where
-  unforeseen : Undoes Held s event
-  undone : (silent : List ℕ) → AreSilent Held s event silent → All (Settles Held s) (coming s event silent) → Undoes Held s event
+-- No entry was made of the event, and all logs are read as before. Before it was found which pairs would come, logs were only asked.
+-- After that the first of these were joined, and then the log of each is read by those that the registry says.
+pub data Undoes (s : State) (event : Event) (accesses : List Access) : Type 0 where
+  unforeseen : All LeavesIt accesses → Undoes s event accesses
+  undone : (silent : List ℕ) → Then (AreSilent s event silent) (Then (JoinsSome s (coming s event silent)) (Each (Settles s) (coming s event silent))) accesses
+      → Undoes s event accesses
 
 -- ---- the pages of the region
 
@@ -55,49 +57,56 @@ taken_by row pages = marked true row.place (log_pages row) pages
 -- ---- the log opens that an event opens
 
 -- the log of that row is read by those that the registry says
-abbrev pub IsRead : (LogAt → SlotLog → SlotLog → Type 0) → State → Source → Type 0
-IsRead Held s row = (position : Option ℕ) × Rejoins (Held (log_at row)) row.number (readers_of (pairs_of s) row.number) position
+abbrev pub IsRead : State → Source → List Access → Type 0
+IsRead s row accesses = (position : Option ℕ) × Rejoins (IsAt (log_at row) accesses) row.number (readers_of (pairs_of s) row.number) position
+
+-- the slot of that row took the log
+abbrev pub IsPut : Source → HeldLog → List Access → Type 0
+IsPut row log accesses = Takes (IsAt (log_at row) accesses) row.session row.stream log
 
 -- the log is in its slot, and those read it that the registry says; or the slot did not take it, and its pages are free again
-pub data Puts (Held : LogAt → SlotLog → SlotLog → Type 0) (s : State) (row : Source) (log : HeldLog) (old new : List Bool) : Type 0 where
-  put : Takes (Held (log_at row)) row.session row.stream log → IsRead Held s row → new ≡ old → Puts Held s row log old new
-  gave_back : Refuses (Held (log_at row)) log log → new ≡ freed log old → Puts Held s row log old new
+pub data Puts (s : State) (row : Source) (log : HeldLog) (old new : List Bool) (accesses : List Access) : Type 0 where
+  put : Then (IsPut row log) (IsRead s row) accesses → new ≡ old → Puts s row log old new accesses
+  gave_back : Refuses (IsAt (log_at row) accesses) log log → new ≡ freed log old → Puts s row log old new accesses
 
 -- the log of that row opened as it says; only where its place has no room, or the memory is not for it, nothing was done
-pub data OpensRow (Held : LogAt → SlotLog → SlotLog → Type 0) (home : Home) (s : State) (room : Option ℕ) (row : Source) (old new : List Bool) : Type 0 where
-  opened : (log : HeldLog) → OpensAs home s.settings s.moment row log → Puts Held s row log (taken_by row old) new → OpensRow Held home s room row old new
-  without_room : (IsLeastPlace old (log_pages row) row.place → IsRoomFor room row row.origin → ⊥) → new ≡ old → OpensRow Held home s room row old new
+pub data OpensRow (home : Home) (s : State) (room : Option ℕ) (row : Source) (old new : List Bool) (accesses : List Access) : Type 0 where
+  opened : (log : HeldLog) → OpensAs home s.settings s.moment row log → Puts s row log (taken_by row old) new accesses → OpensRow home s room row old new accesses
+  without_room : (IsLeastPlace old (log_pages row) row.place → IsRoomFor room row row.origin → ⊥) → new ≡ old → accesses ≡ []
+      → OpensRow home s room row old new accesses
 
 -- that of the source, if the registry has it
-abbrev pub OpensSource : (LogAt → SlotLog → SlotLog → Type 0) → Home → State → Option ℕ → Option Source → List Bool → List Bool → Type 0
-OpensSource Held home s room None old new = new ≡ old
-OpensSource Held home s room (Some row) old new = OpensRow Held home s room row old new
+abbrev pub OpensSource : Home → State → Option ℕ → Option Source → List Bool → List Bool → List Access → Type 0
+OpensSource home s room None old new accesses = (new ≡ old) × (accesses ≡ [])
+OpensSource home s room (Some row) old new accesses = OpensRow home s room row old new accesses
 
-abbrev pub OpensAt : (LogAt → SlotLog → SlotLog → Type 0) → Home → State → Option ℕ → LogPlace → List Bool → List Bool → Type 0
-OpensAt Held home s room place old new = OpensSource Held home s room (source_at s.streams.sources place.source) old new
+abbrev pub OpensAt : Home → State → Option ℕ → LogPlace → List Bool → List Bool → List Access → Type 0
+OpensAt home s room place old new accesses = OpensSource home s room (source_at s.streams.sources place.source) old new accesses
 
 -- that which the event opens, if it opens one
-abbrev pub OpensNext : (LogAt → SlotLog → SlotLog → Type 0) → Home → State → Option ℕ → Option LogPlace → List Bool → List Bool → Type 0
-OpensNext Held home s room None old new = new ≡ old
-OpensNext Held home s room (Some place) old new = OpensAt Held home s room place old new
+abbrev pub OpensNext : Home → State → Option ℕ → Option LogPlace → List Bool → List Bool → List Access → Type 0
+OpensNext home s room None old new accesses = (new ≡ old) × (accesses ≡ [])
+OpensNext home s room (Some place) old new accesses = OpensAt home s room place old new accesses
 
 -- ---- logs close
 
 -- a hold of its lock closed the log, if it was open there, and then its pages are free
-abbrev pub ClosesAt : (LogAt → SlotLog → SlotLog → Type 0) → LogAt → List Bool → List Bool → Type 0
-ClosesAt Held at old new = (log : Option HeldLog) × Closes (Held at) at.source log × (new ≡ freed_if log old)
+abbrev pub ClosesAt : LogAt → List Bool → List Bool → List Access → Type 0
+ClosesAt at old new accesses = (log : Option HeldLog) × Closes (IsAt at accesses) at.source log × (new ≡ freed_if log old)
 
 -- so did each of these, in their order
-abbrev pub ClosesEach : (LogAt → SlotLog → SlotLog → Type 0) → List LogAt → List Bool → List Bool → Type 0
-ClosesEach Held [] old new = new ≡ old
-ClosesEach Held (at ∷ more) old new = (next : List Bool) × ClosesAt Held at old next × ClosesEach Held more next new
+abbrev pub ClosesEach : List LogAt → List Bool → List Bool → List Access → Type 0
+ClosesEach ats old new accesses = Chain ClosesAt ats old new accesses
 
 -- ---- all that follows
 
+-- The pairs that went read no more, and then the logs closed.
+abbrev pub Leaves : State → List Pair → List LogAt → List Bool → List Bool → List Access → Type 0
+Leaves s gone closes old new accesses = Then (Each (Settles s) gone) (ClosesEach closes old new) accesses
+
 -- The log opened that the entry opens, as the registry after it says. Then the pairs that went read no more, and the logs closed
 -- that the entry closes, where the registry before it has them.
-pub record Follows (Held : LogAt → SlotLog → SlotLog → Type 0) (home : Home) (before after : State) (entry : Entry) (old new : List Bool) : Type 0 where
+pub record Follows (home : Home) (before after : State) (entry : Entry) (old new : List Bool) (accesses : List Access) : Type 0 where
   pub opened : List Bool
-  pub opens : OpensNext Held home after (memory_of entry.event) entry.outcome.opens old opened
-  pub gone : All (Settles Held after) entry.outcome.gone
-  pub closes : ClosesEach Held (closing before entry.outcome.closes) opened new
+  pub happens : Then (OpensNext home after (memory_of entry.event) entry.outcome.opens old opened)
+      (Leaves after entry.outcome.gone (closing before entry.outcome.closes) opened new) accesses

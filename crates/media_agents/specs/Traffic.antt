@@ -9,7 +9,7 @@ use Rattle.drop_tallies.specs.declared.miss.Miss.{Miss}
 use Rattle.drop_tallies.specs.declared.miss.Miss.TheVariants.{QueueFull, Unheard, Unread, Unsent}
 use Rattle.frame_codec.specs.declared.fault.BadPacket.{BadPacket}
 use Rattle.frame_codec.specs.Datagram.{Content, beat, frames, nak, packet_of, setup, status}
-use Rattle.media_agents.specs.Acts.{Access, Act, Alone, Then, Writes, called, kept, shared}
+use Rattle.media_agents.specs.Acts.{Access, Act, Alone, Chain, Then, Writes, called, kept, shared}
 use Rattle.media_agents.specs.declared.journal.Journal.{Journal}
 use Rattle.media_agents.specs.declared.listing.ImageAt.{ImageAt}
 use Rattle.media_agents.specs.declared.slots.LogAt.{LogAt}
@@ -21,13 +21,6 @@ use Rattle.media_wire.specs.Events.{failed, nothing, read, sent}
 use Rattle.media_wire.specs.Letters.{letter}
 use Rattle.media_wire.specs.declared.letter.Letter.{Letter}
 use Rattle.published_registry.specs.Histories.{History}
-
-module _ {S X : Type 0} where
-  -- one after another, each of these did that, from one state to the next, by these acts
-  abbrev pub Chain : (X → S → S → List Act → Type 0) → List X → S → S → List Act → Type 0
-  Chain Does [] before after acts = (after ≡ before) × (acts ≡ [])
-  Chain Does (one ∷ more) before after acts =
-      (next : S) × (first : List Act) × (rest : List Act) × (acts ≡ first ++ rest) × Does one before next first × Chain Does more next after rest
 
 -- a call of the wire failed, and it was counted so
 abbrev pub Fails : Miss → Address → List Act → Type 0

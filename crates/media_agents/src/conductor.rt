@@ -2,11 +2,12 @@
 
 ghost use Rattle.command_queue.specs.Facts.{were_taken};
 ghost use Rattle.driver_core.specs.declared.event.Event.TheVariants.{Tick};
+ghost use Rattle.media_agents.specs.Acts.{Each, GoesOn};
 ghost use Rattle.media_agents.specs.Asking.{IsRowClosed};
 ghost use Rattle.media_agents.specs.Turns.{Turned};
 ghost use Rattle.media_agents.specs.Works.{Does, Misses, events_made};
 ghost use Rattle.published_registry.specs.Histories.{registry_of};
-ghost use Rattle.std.specs.Prelude.{◌≡◌, All};
+ghost use Rattle.std.specs.Prelude.{◌≡◌};
 
 use crate::desk::Desks;
 use crate::gate::{Agent, Gate, Turn};
@@ -77,7 +78,7 @@ impl<
     /// time goes on. It answers how many of these were refused memory.
     pub fn turn<R: Wait>(&mut self, rt: &R, now: u64) -> u32
         ensures known { self.new.known ≡ self.old.known }
-        ensures turned { Turned events_made (Does L.held D.held N.home T.wrote) (Misses L.held D.held N.home) self.old.taker self.new.taker self.old.known (Tick now) self.old.works self.new.works result }
+        ensures turned { Turned events_made (Does L.did D.told N.home T.wrote) (Misses L.did D.told N.home) self.old.taker self.new.taker self.old.known (Tick now) self.old.works self.new.works result }
     {
         self.gate.pass(Agent::Conductor, self.turn);
         let Conductor {
@@ -94,10 +95,11 @@ impl<
         misses
     }
 
-    /// Ends the driver and gives its last registry: nobody gets a look at it any more, and each of its logs closes.
-    pub fn end<R: Wait>(self, rt: &R) -> Registry
-        ensures registry { result ≡ registry_of self.works.history }
-        ensures closed { All (IsRowClosed (L.held self.works.logs)) result.streams.sources }
+    /// Ends the driver and gives its last registry, and the way to its logs: nobody gets a look at the registry any more, and
+    /// each of its logs closes.
+    pub fn end<R: Wait>(self, rt: &R) -> (Registry, L)
+        ensures registry { result.0 ≡ registry_of self.works.history }
+        ensures closed { GoesOn (Each IsRowClosed result.0.streams.sources) (L.did self.works.logs) (L.did result.1) }
     {
         let Conductor {
             taker: _,

@@ -2,14 +2,14 @@
 
 ghost use Rattle.media_agents.specs.Answering.{IsAnswer};
 ghost use Rattle.media_agents.specs.Desks.{DeskState, IsTold, answered_with};
-ghost use Rattle.std.specs.Prelude.{◌≡◌, ⊤, None};
+ghost use Rattle.std.specs.Prelude.{◌≡◌, List, ⊤, None};
 
 use crate::answering::{Answered, Question};
 use crate::naming::DriverNaming;
 use driver_core::Response;
 use published_registry::Receipt;
 use std::marker::Model;
-use std::sync::{Mutex, Wait};
+use std::sync::{Arc, Mutex, Wait};
 
 /// Where a question is until it is answered: a client that attaches, or a policy that is put in force. A lock guards it.
 #[derive(Drop)]
@@ -67,15 +67,16 @@ impl<N: DriverNaming> Desk<N> {
     }
 }
 
-/// Where the owner of a driver asks, as the conductor gets at it: under its lock.
+/// Where the conductor answers the owner of a driver. Each handle is the conductor's alone, so what it told is in its order, and
+/// nothing else is among it.
 pub trait Desks<N: DriverNaming> {
-    /// In one hold of the lock this was found there, and that was left. What is said over any desk can know it by a call alone.
-    ghost held: { Self → DeskState → DeskState → Type 0 };
+    /// At each hold of the desk's lock so far, in their order, that was found there and this was left, as far as is known.
+    ghost told: { Self → List (DeskState × DeskState) → Type 0 };
 
     /// The question is answered: by the response of its entry, or by none where there was no memory. The ring of a client that
     /// attaches by it.
     fn answer<R: Wait>(
-        &self,
+        &mut self,
         rt: &R,
         question: Question,
         response: Option<Response>,
@@ -83,7 +84,7 @@ pub trait Desks<N: DriverNaming> {
     ) -> u16
         requires ours { receipt.book ≡ N.book }
         requires answer { IsAnswer question response receipt }
-        ensures { IsTold (held self.now) question response receipt result };
+        ensures { IsTold (told self.old) (told self.new) question response receipt result };
 }
 
 /// The desk alone, in one hold.
@@ -95,21 +96,36 @@ fn tell<N: DriverNaming>(
 ) -> u16
     requires ours { receipt.book ≡ N.book }
     requires answer { IsAnswer question response receipt }
-    ensures { IsTold (λ found left. ⊤) question response receipt result }
+    ensures { IsTold (λ holds. ⊤) (λ holds. ⊤) question response receipt result }
 {
     desk.answer(question, response, receipt)
 }
 
-impl<N: DriverNaming> Desks<N> for Mutex<Desk<N>> {
-    ghost held = { λ desk found left. ⊤ };
+/// The conductor's way to a driver's desk.
+#[derive(Drop)]
+pub struct DeskAnswers<N: DriverNaming> {
+    desk: Arc<Mutex<Desk<N>>>,
+}
+
+impl<N: DriverNaming> DeskAnswers<N> {
+    /// That to this desk.
+    pub fn new(desk: Arc<Mutex<Desk<N>>>) -> DeskAnswers<N>
+        ensures { result.desk ≡ desk }
+    {
+        DeskAnswers { desk }
+    }
+}
+
+impl<N: DriverNaming> Desks<N> for DeskAnswers<N> {
+    ghost told = { λ desk holds. ⊤ };
 
     fn answer<R: Wait>(
-        &self,
+        &mut self,
         rt: &R,
         question: Question,
         response: Option<Response>,
         receipt: Receipt,
     ) -> u16 {
-        tell(&mut *self.lock(rt), question, response, receipt)
+        tell(&mut *self.desk.lock(rt), question, response, receipt)
     }
 }

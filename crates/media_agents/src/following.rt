@@ -6,10 +6,11 @@ ghost use Rattle.driver_core.specs.Readers.{readers_of};
 ghost use Rattle.driver_core.specs.Renewal.{source_at};
 ghost use Rattle.driver_core.specs.Soundness.{AreSizes, BeginsSoundly, IsSound};
 ghost use Rattle.log_slots.specs.Opening.{OpensAs, room_of};
-ghost use Rattle.media_agents.specs.Asking.{IsRowClosed, Settles};
-ghost use Rattle.media_agents.specs.Following.{ClosesEach, OpensAt, OpensNext, OpensRow, Puts, freed_if};
+ghost use Rattle.media_agents.specs.Acts.{Each, GoesOn};
+ghost use Rattle.media_agents.specs.Asking.{IsRowClosed};
+ghost use Rattle.media_agents.specs.Following.{ClosesEach, Leaves, OpensAt, OpensNext, OpensRow, Puts, freed_if};
 ghost use Rattle.std.specs.Option.{option_copied};
-ghost use Rattle.std.specs.Prelude.{◌≡◌, ◌≤◌, All, IfSome, length};
+ghost use Rattle.std.specs.Prelude.{◌≡◌, ◌≤◌, IfSome, length};
 
 use crate::aftermath::Aftermath;
 use crate::pairing::settle;
@@ -35,7 +36,7 @@ fn row_of(registry: &Registry, place: LogPlace) -> Option<&Source>
 fn put<N: Naming, L: Logs<N>, R: Wait>(
     rt: &R,
     region: &mut Region<N>,
-    logs: &L,
+    logs: &mut L,
     registry: &Registry,
     room: &mut Rows<u64, 512>,
     row: &Source,
@@ -43,7 +44,7 @@ fn put<N: Naming, L: Logs<N>, R: Wait>(
 )
     requires few { length (readers_of (pairs_of registry.now) row.now.number) ≤ 512 }
     requires opens { OpensAs N.home registry.now.settings registry.now.moment row.now log }
-    ensures { Puts (L.held logs.now) registry.now row.now log region.old region.new }
+    ensures { GoesOn (Puts registry.now row.now log region.old region.new) (L.did logs.old) (L.did logs.new) }
 {
     match logs.open(rt, LogAt::of(row), log, row.session, row.stream) {
         Ok(()) => {
@@ -58,7 +59,7 @@ fn put<N: Naming, L: Logs<N>, R: Wait>(
 fn open_row<N: Naming, L: Logs<N>, R: Wait>(
     rt: &R,
     region: &mut Region<N>,
-    logs: &L,
+    logs: &mut L,
     registry: &Registry,
     room: &mut Rows<u64, 512>,
     memory: LogMemory,
@@ -67,7 +68,7 @@ fn open_row<N: Naming, L: Logs<N>, R: Wait>(
     requires sizes { AreSizes row.now.measures }
     requires begins { BeginsSoundly row.now }
     requires few { length (readers_of (pairs_of registry.now) row.now.number) ≤ 512 }
-    ensures { OpensRow (L.held logs.now) N.home registry.now (room_of memory) row.now region.old region.new }
+    ensures { GoesOn (OpensRow N.home registry.now (room_of memory) row.now region.old region.new) (L.did logs.old) (L.did logs.new) }
 {
     let now = registry.moment();
     let settings = registry.settings();
@@ -80,14 +81,14 @@ fn open_row<N: Naming, L: Logs<N>, R: Wait>(
 fn open<N: Naming, L: Logs<N>, R: Wait>(
     rt: &R,
     region: &mut Region<N>,
-    logs: &L,
+    logs: &mut L,
     registry: &Registry,
     room: &mut Rows<u64, 512>,
     memory: LogMemory,
     place: LogPlace,
 )
     requires { IsSound registry.now }
-    ensures { OpensAt (L.held logs.now) N.home registry.now (room_of memory) place region.old region.new }
+    ensures { GoesOn (OpensAt N.home registry.now (room_of memory) place region.old region.new) (L.did logs.old) (L.did logs.new) }
 {
     if let Some(row) = row_of(registry, place) {
         open_row(rt, region, logs, registry, room, memory, row);
@@ -98,14 +99,14 @@ fn open<N: Naming, L: Logs<N>, R: Wait>(
 pub(crate) fn open_next<N: Naming, L: Logs<N>, R: Wait>(
     rt: &R,
     region: &mut Region<N>,
-    logs: &L,
+    logs: &mut L,
     registry: &Registry,
     room: &mut Rows<u64, 512>,
     memory: LogMemory,
     opens: Option<LogPlace>,
 )
     requires { IsSound registry.now }
-    ensures { OpensNext (L.held logs.now) N.home registry.now (room_of memory) opens region.old region.new }
+    ensures { GoesOn (OpensNext N.home registry.now (room_of memory) opens region.old region.new) (L.did logs.old) (L.did logs.new) }
 {
     match opens {
         Some(place) => open(rt, region, logs, registry, room, memory, place),
@@ -127,10 +128,10 @@ fn free<N: Naming>(region: &mut Region<N>, log: Option<OpenLog>)
 fn close_all<N: Naming, L: Logs<N>, R: Wait>(
     rt: &R,
     region: &mut Region<N>,
-    logs: &L,
+    logs: &mut L,
     closes: &[LogAt],
 )
-    ensures { ClosesEach (L.held logs.now) closes.now region.old region.new }
+    ensures { GoesOn (ClosesEach closes.now region.old region.new) (L.did logs.old) (L.did logs.new) }
 {
     for at in closes {
         let log = logs.close(rt, *at);
@@ -142,14 +143,13 @@ fn close_all<N: Naming, L: Logs<N>, R: Wait>(
 pub(crate) fn follow<N: Naming, L: Logs<N>, R: Wait>(
     rt: &R,
     region: &mut Region<N>,
-    logs: &L,
+    logs: &mut L,
     registry: &Registry,
     room: &mut Rows<u64, 512>,
     aftermath: &Aftermath,
 )
     requires { IsSound registry.now }
-    ensures gone { All (Settles (L.held logs.now) registry.now) aftermath.now.gone }
-    ensures closes { ClosesEach (L.held logs.now) aftermath.now.closes region.old region.new }
+    ensures { GoesOn (Leaves registry.now aftermath.now.gone aftermath.now.closes region.old region.new) (L.did logs.old) (L.did logs.new) }
 {
     settle(rt, logs, registry, room, aftermath.gone.as_slice());
     close_all(rt, region, logs, aftermath.closes.as_slice());
@@ -159,10 +159,10 @@ pub(crate) fn follow<N: Naming, L: Logs<N>, R: Wait>(
 pub(crate) fn close_live<N: Naming, L: Logs<N>, R: Wait>(
     rt: &R,
     region: &mut Region<N>,
-    logs: &L,
+    logs: &mut L,
     registry: &Registry,
 )
-    ensures { All (IsRowClosed (L.held logs.now)) registry.now.streams.sources }
+    ensures { GoesOn (Each IsRowClosed registry.now.streams.sources) (L.did logs.old) (L.did logs.new) }
 {
     for row in registry.sources() {
         if let Some(log) = logs.close(rt, LogAt::of(row)) {

@@ -37,7 +37,7 @@ mod works;
 pub use answering::{Answered, Question};
 pub use clock::Clock;
 pub use conductor::Conductor;
-pub use desk::{Desk, Desks};
+pub use desk::{Desk, DeskAnswers, Desks};
 pub use drop_tallies::{Miss, Repairs, Tallies, Tally};
 pub use eliciting::{ElicitFault, Elicitation, Elicitations, Elicited, make_elicitations};
 pub use gate::{Agent, Backoff, Gate, Turn};

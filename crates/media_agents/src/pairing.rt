@@ -3,8 +3,9 @@
 ghost use Rattle.driver_core.specs.Pairs.{pairs_of};
 ghost use Rattle.driver_core.specs.Readers.{readers_of};
 ghost use Rattle.driver_core.specs.Soundness.{IsSound};
-ghost use Rattle.media_agents.specs.Asking.{Gathers, Joins, Settles};
-ghost use Rattle.std.specs.Prelude.{◌≤◌, ◌≡◌, ◌==◌, ◌++◌, ◌∷◌, [], All, IfOk, if◌then◌else◌, length, take};
+ghost use Rattle.media_agents.specs.Acts.{Each, GoesOn};
+ghost use Rattle.media_agents.specs.Asking.{Gathers, Joins, JoinsSome, Settles};
+ghost use Rattle.std.specs.Prelude.{◌≤◌, ◌≡◌, ◌==◌, ◌++◌, ◌∷◌, [], IfOk, OnErr, if◌then◌else◌, length, take};
 
 use crate::listing::add;
 use crate::slots::{LogAt, Logs};
@@ -39,14 +40,14 @@ fn add_readers(room: &mut Rows<u64, 512>, source: u64, come: &[Pair])
 /// The log's subscriptions that are to come read it with those that do. How far it reaches then, if it is open.
 fn join_one<N: Naming, L: Logs<N>, R: Wait>(
     rt: &R,
-    logs: &L,
+    logs: &mut L,
     registry: &Registry,
     room: &mut Rows<u64, 512>,
     pair: Pair,
     come: &[Pair],
 ) -> Option<End>
     requires { length (readers_of (pairs_of registry.now) pair.source) ≤ 512 }
-    ensures { Joins (L.held logs.now) registry.now come.now pair result }
+    ensures { GoesOn (Joins registry.now come.now pair result) (L.did logs.old) (L.did logs.new) }
 {
     let row = registry.source(pair.source)?;
     registry.readers(pair.source, room);
@@ -63,13 +64,14 @@ fn join_one<N: Naming, L: Logs<N>, R: Wait>(
 pub(crate) fn join<N: Naming, L: Logs<N>, R: Wait>(
     rt: &R,
     alloc: Global,
-    logs: &L,
+    logs: &mut L,
     registry: &Registry,
     room: &mut Rows<u64, 512>,
     come: &[Pair],
 ) -> Result<Items<End>, AllocError>
     requires { IsSound registry.now }
-    ensures { IfOk result (λ ends. Gathers (Joins (L.held logs.now) registry.now come.now) come.now ends) }
+    ensures joins { IfOk result (λ ends. GoesOn (Gathers (Joins registry.now come.now) come.now ends) (L.did logs.old) (L.did logs.new)) }
+    ensures err { OnErr result (GoesOn (JoinsSome registry.now come.now) (L.did logs.old) (L.did logs.new)) }
 {
     let mut ends = Items::new(alloc);
     for pair in come {
@@ -83,13 +85,13 @@ pub(crate) fn join<N: Naming, L: Logs<N>, R: Wait>(
 /// The log of a pair is read as the registry says.
 fn settle_one<N: Naming, L: Logs<N>, R: Wait>(
     rt: &R,
-    logs: &L,
+    logs: &mut L,
     registry: &Registry,
     room: &mut Rows<u64, 512>,
     pair: Pair,
 )
     requires { length (readers_of (pairs_of registry.now) pair.source) ≤ 512 }
-    ensures { Settles (L.held logs.now) registry.now pair }
+    ensures { GoesOn (Settles registry.now pair) (L.did logs.old) (L.did logs.new) }
 {
     let Some(row) = registry.source(pair.source) else {
         return;
@@ -101,13 +103,13 @@ fn settle_one<N: Naming, L: Logs<N>, R: Wait>(
 /// The logs of these pairs are read as the registry says. It takes no memory.
 pub(crate) fn settle<N: Naming, L: Logs<N>, R: Wait>(
     rt: &R,
-    logs: &L,
+    logs: &mut L,
     registry: &Registry,
     room: &mut Rows<u64, 512>,
     pairs: &[Pair],
 )
     requires { IsSound registry.now }
-    ensures { All (Settles (L.held logs.now) registry.now) pairs.now }
+    ensures { GoesOn (Each (Settles registry.now) pairs.now) (L.did logs.old) (L.did logs.new) }
 {
     for pair in pairs {
         settle_one(rt, logs, registry, room, *pair);

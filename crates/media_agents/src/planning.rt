@@ -4,10 +4,11 @@ ghost use Rattle.driver_core.specs.Conduct.{state_after};
 ghost use Rattle.driver_core.specs.Soundness.{IsSound};
 ghost use Rattle.driver_steps.specs.Opening.{memory_of};
 ghost use Rattle.log_slots.specs.Opening.{room_of};
-ghost use Rattle.media_agents.specs.Asking.{AreSilent, Gathers, Joins, closing};
+ghost use Rattle.media_agents.specs.Acts.{GoesOn};
+ghost use Rattle.media_agents.specs.Asking.{AreSilent, Gathers, Joins, JoinsSome, LeavesIt, closing};
 ghost use Rattle.media_agents.specs.Following.{coming};
 ghost use Rattle.published_registry.specs.Histories.{IsPlannedOn};
-ghost use Rattle.std.specs.Prelude.{◌≡◌, IfOk};
+ghost use Rattle.std.specs.Prelude.{◌≡◌, All, IfOk, OnErr};
 
 use crate::aftermath::Aftermath;
 use crate::pairing::join;
@@ -119,12 +120,13 @@ pub(crate) struct Foreseen {
 pub(crate) fn foresee<N: Naming, L: Logs<N>, R: Wait>(
     rt: &R,
     alloc: Global,
-    logs: &L,
+    logs: &mut L,
     registry: &Registry,
     event: &Event,
 ) -> Result<Foreseen, AllocError>
-    ensures silent { IfOk result (λ foreseen. AreSilent (L.held logs.now) registry.now event.now foreseen.silent) }
+    ensures silent { IfOk result (λ foreseen. GoesOn (AreSilent registry.now event.now foreseen.silent) (L.did logs.old) (L.did logs.new)) }
     ensures come { IfOk result (λ foreseen. foreseen.come ≡ coming registry.now event.now foreseen.silent) }
+    ensures err { OnErr result (GoesOn (All LeavesIt) (L.did logs.old) (L.did logs.new)) }
 {
     let silent = silent_of(rt, alloc, logs, registry, event)?;
     let draft = plan_at(alloc, registry, event, silent.as_slice(), Items::new(alloc))?;
@@ -141,7 +143,7 @@ pub(crate) fn foresee<N: Naming, L: Logs<N>, R: Wait>(
 pub(crate) fn plan_joined<N: Naming, L: Logs<N>, R: Wait>(
     rt: &R,
     alloc: Global,
-    logs: &L,
+    logs: &mut L,
     registry: &Registry,
     room: &mut Rows<u64, 512>,
     event: &Event,
@@ -152,7 +154,8 @@ pub(crate) fn plan_joined<N: Naming, L: Logs<N>, R: Wait>(
     ensures sound { IfOk result (λ ready. IsSound (state_after registry.now ready.entry.event ready.entry.inputs)) }
     ensures event_is { IfOk result (λ ready. ready.entry.event ≡ event.now) }
     ensures silent { IfOk result (λ ready. ready.entry.inputs.silent ≡ foreseen.now.silent) }
-    ensures ends { IfOk result (λ ready. Gathers (Joins (L.held logs.now) registry.now foreseen.now.come) foreseen.now.come ready.entry.inputs.ends) }
+    ensures ends { IfOk result (λ ready. GoesOn (Gathers (Joins registry.now foreseen.now.come) foreseen.now.come ready.entry.inputs.ends) (L.did logs.old) (L.did logs.new)) }
+    ensures err { OnErr result (GoesOn (JoinsSome registry.now foreseen.now.come) (L.did logs.old) (L.did logs.new)) }
     ensures response { IfOk result (λ ready. ready.aftermath.response ≡ ready.entry.outcome.response) }
     ensures opens { IfOk result (λ ready. ready.aftermath.opens ≡ ready.entry.outcome.opens) }
     ensures closes { IfOk result (λ ready. ready.aftermath.closes ≡ closing registry.now ready.entry.outcome.closes) }

@@ -1,10 +1,10 @@
 //! The receiver's turns.
 
-ghost use Rattle.media_agents.specs.Acts.{GoesOn, Trail};
+ghost use Rattle.media_agents.specs.Acts.{Chain, GoesOn, Trail};
 ghost use Rattle.media_agents.specs.Agents.{ReceivesBy};
 ghost use Rattle.media_agents.specs.Passing.{next_turn};
 ghost use Rattle.media_agents.specs.SetUps.{SetsUp, SetsUpFew};
-ghost use Rattle.media_agents.specs.Traffic.{Chain, HearsOut, ReceiverTakes, ReportsOne};
+ghost use Rattle.media_agents.specs.Traffic.{HearsOut, ReceiverTakes, ReportsOne};
 ghost use Rattle.published_registry.specs.Histories.{IsContinuedBy};
 ghost use Rattle.std.specs.Prelude.{◌≡◌, Bool, IfOk, max};
 

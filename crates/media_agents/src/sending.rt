@@ -1,10 +1,10 @@
 //! The sender's turns.
 
-ghost use Rattle.media_agents.specs.Acts.{GoesOn, Trail};
+ghost use Rattle.media_agents.specs.Acts.{Chain, GoesOn, Trail};
 ghost use Rattle.media_agents.specs.Agents.{Sends};
 ghost use Rattle.media_agents.specs.declared.stepping.Stepped.{Stepped as It};
 ghost use Rattle.media_agents.specs.Passing.{next_turn};
-ghost use Rattle.media_agents.specs.Traffic.{Chain, HearsOut, SenderTakes, SendsOne, SendsRun, was_due};
+ghost use Rattle.media_agents.specs.Traffic.{HearsOut, SenderTakes, SendsOne, SendsRun, was_due};
 ghost use Rattle.published_registry.specs.Histories.{IsContinuedBy};
 ghost use Rattle.std.specs.Prelude.{◌≡◌, Bool, IfOk, Option, max};
 

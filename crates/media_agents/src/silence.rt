@@ -1,7 +1,8 @@
 //! Which images are silent as time goes on.
 
-ghost use Rattle.media_agents.specs.Asking.{AreSilent, AreSilentAt, SilenceOf};
-ghost use Rattle.std.specs.Prelude.{IfOk};
+ghost use Rattle.media_agents.specs.Acts.{GoesOn};
+ghost use Rattle.media_agents.specs.Asking.{AreSilent, AreSilentAt, LeavesIt, SilenceOf};
+ghost use Rattle.std.specs.Prelude.{All, IfOk, OnErr};
 
 use crate::slots::{LogAt, Logs};
 use byte_strings::Items;
@@ -14,12 +15,12 @@ use stream_registry::Source;
 /// The number of the row's log, if it is that of an image which is silent: it is asked under its lock.
 fn silent_one<N: Naming, L: Logs<N>, R: Wait>(
     rt: &R,
-    logs: &L,
+    logs: &mut L,
     row: &Source,
     moment: u64,
     limit: u64,
 ) -> Option<u64>
-    ensures { SilenceOf (L.held logs.now) moment limit row.now result }
+    ensures { GoesOn (SilenceOf moment limit row.now result) (L.did logs.old) (L.did logs.new) }
 {
     let at = LogAt::of(row);
     if !at.published && logs.is_silent(rt, at, moment, limit) {
@@ -34,11 +35,12 @@ fn silent_one<N: Naming, L: Logs<N>, R: Wait>(
 fn silent_at<N: Naming, L: Logs<N>, R: Wait>(
     rt: &R,
     alloc: Global,
-    logs: &L,
+    logs: &mut L,
     registry: &Registry,
     now: u64,
 ) -> Result<Items<u64>, AllocError>
-    ensures { IfOk result (λ silent. AreSilentAt (L.held logs.now) registry.now now silent) }
+    ensures silent { IfOk result (λ silent. GoesOn (AreSilentAt registry.now now silent) (L.did logs.old) (L.did logs.new)) }
+    ensures err { OnErr result (GoesOn (All LeavesIt) (L.did logs.old) (L.did logs.new)) }
 {
     let moment = registry.moment().max(now);
     let liveness = registry.settings().image_liveness;
@@ -55,11 +57,12 @@ fn silent_at<N: Naming, L: Logs<N>, R: Wait>(
 pub(crate) fn silent_of<N: Naming, L: Logs<N>, R: Wait>(
     rt: &R,
     alloc: Global,
-    logs: &L,
+    logs: &mut L,
     registry: &Registry,
     event: &Event,
 ) -> Result<Items<u64>, AllocError>
-    ensures { IfOk result (λ silent. AreSilent (L.held logs.now) registry.now event.now silent) }
+    ensures silent { IfOk result (λ silent. GoesOn (AreSilent registry.now event.now silent) (L.did logs.old) (L.did logs.new)) }
+    ensures err { OnErr result (GoesOn (All LeavesIt) (L.did logs.old) (L.did logs.new)) }
 {
     match event {
         Event::Tick { now } => silent_at(rt, alloc, logs, registry, *now),

@@ -1,14 +1,14 @@
 ghost use Rattle.any_log.specs.Held.{made_held, messages_held, place_held};
 ghost use Rattle.log_slots.specs.Slots.{IsMadeFor, SlotLog};
-ghost use Rattle.media_agents.specs.Asking.{Closes, IsHold, Opens, Rejoins, SaysSilent};
-ghost use Rattle.media_agents.specs.declared.slots.LogAt.{LogAt as At};
+ghost use Rattle.media_agents.specs.Acts.{Access, GoesOn};
+ghost use Rattle.media_agents.specs.Asking.{Closes, IsAt, IsHold, Opens, Rejoins, SaysSilent};
 ghost use Rattle.media_agents.specs.Finding.{log_at};
-ghost use Rattle.std.specs.Prelude.{◌≡◌, ◌≤◌, length, IfSome};
+ghost use Rattle.std.specs.Prelude.{◌≡◌, ◌≤◌, List, length, IfErr, IfSome};
 
 use crate::journal::Journal;
-use crate::unopened::{Unopened, open_image, open_publication};
+use crate::unopened::Unopened;
 use driver_steps::OpenLog;
-use log_slots::{LogSlot, Naming, Slot, lock_soon};
+use log_slots::{LogSlot, Naming, Slot};
 use std::sync::{Mutex, Wait};
 use stream_registry::Source;
 
@@ -37,22 +37,21 @@ impl LogAt {
 /// The logs of a driver as the conductor gets at them, each under the lock of its slot. A slot that is not there is as one in
 /// which no log is open.
 pub trait Logs<N: Naming> {
-    /// In one hold of the lock of that log's slot this was found there, and that was left. What is said over any logs can know
-    /// it by a call alone.
-    ghost held: { Self → At → SlotLog → SlotLog → Type 0 };
+    /// These are all accesses so far. What is said over any logs can know one by a call alone.
+    ghost did: { Self → List Access → Type 0 };
 
     /// Exactly these subscriptions read the log from now on: from which position on a new one does, if it is open.
-    fn rejoin<R: Wait>(&self, rt: &R, at: LogAt, subscriptions: &[u64]) -> Option<u64>
+    fn rejoin<R: Wait>(&mut self, rt: &R, at: LogAt, subscriptions: &[u64]) -> Option<u64>
         requires { length subscriptions.now ≤ 512 }
-        ensures { Rejoins (held self.now at) at.source subscriptions.now result };
+        ensures { GoesOn (λ accesses. Rejoins (IsAt at accesses) at.source subscriptions.now result) (did self.old) (did self.new) };
 
     /// Whether it is the log of an image that is open, whose publisher was not heard for longer than `limit` nanoseconds.
-    fn is_silent<R: Wait>(&self, rt: &R, at: LogAt, now: u64, limit: u64) -> bool
-        ensures { SaysSilent (held self.now at) at.source now limit result };
+    fn is_silent<R: Wait>(&mut self, rt: &R, at: LogAt, now: u64, limit: u64) -> bool
+        ensures { GoesOn (λ accesses. SaysSilent (IsAt at accesses) at.source now limit result) (did self.old) (did self.new) };
 
     /// The log opens. It comes back where another log is open there, or none opens any more.
     fn open<R: Wait>(
-        &self,
+        &mut self,
         rt: &R,
         at: LogAt,
         log: OpenLog,
@@ -62,11 +61,12 @@ pub trait Logs<N: Naming> {
         requires home { (place_held log.log).home ≡ N.home }
         requires made { IsMadeFor session stream (made_held log.log) }
         requires fresh { messages_held log.log ≡ 0 }
-        ensures { Opens (held self.now at) session stream log result };
+        ensures opened { GoesOn (λ accesses. Opens (IsAt at accesses) session stream log result) (did self.old) (did self.new) }
+        ensures back { IfErr result (λ back. back ≡ log) };
 
     /// The log closes, if it is open: it is handed out.
-    fn close<R: Wait>(&self, rt: &R, at: LogAt) -> Option<OpenLog>
-        ensures closed { Closes (held self.now at) at.source result }
+    fn close<R: Wait>(&mut self, rt: &R, at: LogAt) -> Option<OpenLog>
+        ensures closed { GoesOn (λ accesses. Closes (IsAt at accesses) at.source result) (did self.old) (did self.new) }
         ensures home { IfSome result (λ log. (place_held log.log).home ≡ N.home) };
 }
 
@@ -80,7 +80,7 @@ pub struct Slots<N: Naming> {
 }
 
 /// Exactly these subscriptions read the log of that publication, if it is open here.
-fn rejoin_publication<N: Naming>(
+pub(crate) fn rejoin_publication<N: Naming>(
     slot: &mut Slot<N>,
     source: u64,
     subscriptions: &[u64],
@@ -95,7 +95,11 @@ fn rejoin_publication<N: Naming>(
 }
 
 /// Exactly these subscriptions read the log of that image, if it is open here.
-fn rejoin_image<N: Naming>(slot: &mut LogSlot<N>, source: u64, subscriptions: &[u64]) -> Option<u64>
+pub(crate) fn rejoin_image<N: Naming>(
+    slot: &mut LogSlot<N>,
+    source: u64,
+    subscriptions: &[u64],
+) -> Option<u64>
     requires { length subscriptions.now ≤ 512 }
     ensures { Rejoins (IsHold N.home) source subscriptions.now result }
 {
@@ -106,7 +110,7 @@ fn rejoin_image<N: Naming>(slot: &mut LogSlot<N>, source: u64, subscriptions: &[
 }
 
 /// Whether the log of that image is open here and silent.
-fn ask_image<N: Naming>(slot: &LogSlot<N>, source: u64, now: u64, limit: u64) -> bool
+pub(crate) fn ask_image<N: Naming>(slot: &LogSlot<N>, source: u64, now: u64, limit: u64) -> bool
     ensures { SaysSilent (IsHold N.home) source now limit result }
 {
     slot.holds();
@@ -114,7 +118,7 @@ fn ask_image<N: Naming>(slot: &LogSlot<N>, source: u64, now: u64, limit: u64) ->
 }
 
 /// The log of that publication closes, if it is open here.
-fn close_publication<N: Naming>(slot: &mut Slot<N>, source: u64) -> Option<OpenLog>
+pub(crate) fn close_publication<N: Naming>(slot: &mut Slot<N>, source: u64) -> Option<OpenLog>
     ensures closed { Closes (IsHold N.home) source result }
     ensures home { IfSome result (λ log. (place_held log.log).home ≡ N.home) }
 {
@@ -125,7 +129,7 @@ fn close_publication<N: Naming>(slot: &mut Slot<N>, source: u64) -> Option<OpenL
 }
 
 /// The log of that image closes, if it is open here.
-fn close_image<N: Naming>(slot: &mut LogSlot<N>, source: u64) -> Option<OpenLog>
+pub(crate) fn close_image<N: Naming>(slot: &mut LogSlot<N>, source: u64) -> Option<OpenLog>
     ensures closed { Closes (IsHold N.home) source result }
     ensures home { IfSome result (λ log. (place_held log.log).home ≡ N.home) }
 {
@@ -133,67 +137,4 @@ fn close_image<N: Naming>(slot: &mut LogSlot<N>, source: u64) -> Option<OpenLog>
     let log = slot.close(source);
     slot.holds();
     log
-}
-
-impl<N: Naming> Logs<N> for Slots<N> {
-    ghost held = { λ slots at found left. IsHold N.home found left };
-
-    fn rejoin<R: Wait>(&self, rt: &R, at: LogAt, subscriptions: &[u64]) -> Option<u64> {
-        let slot = at.slot as usize;
-        if at.published {
-            match self.publications.get(slot) {
-                Some(it) => rejoin_publication(&mut *lock_soon(rt, it), at.source, subscriptions),
-                None => None,
-            }
-        } else {
-            match self.images.get(slot) {
-                Some(it) => rejoin_image(&mut *lock_soon(rt, it), at.source, subscriptions),
-                None => None,
-            }
-        }
-    }
-
-    fn is_silent<R: Wait>(&self, rt: &R, at: LogAt, now: u64, limit: u64) -> bool {
-        match self.images.get(at.slot as usize) {
-            Some(it) => ask_image(&*lock_soon(rt, it), at.source, now, limit),
-            None => false,
-        }
-    }
-
-    fn open<R: Wait>(
-        &self,
-        rt: &R,
-        at: LogAt,
-        log: OpenLog,
-        session: i32,
-        stream: i32,
-    ) -> Result<(), Unopened> {
-        let slot = at.slot as usize;
-        if at.published {
-            match self.publications.get(slot) {
-                Some(it) => open_publication(&mut *lock_soon(rt, it), log, session, stream),
-                None => Err(Unopened::no_publication(self, at, log)),
-            }
-        } else {
-            match self.images.get(slot) {
-                Some(it) => open_image(&mut *lock_soon(rt, it), log, session, stream),
-                None => Err(Unopened::no_image(self, at, log)),
-            }
-        }
-    }
-
-    fn close<R: Wait>(&self, rt: &R, at: LogAt) -> Option<OpenLog> {
-        let slot = at.slot as usize;
-        if at.published {
-            match self.publications.get(slot) {
-                Some(it) => close_publication(&mut *lock_soon(rt, it), at.source),
-                None => None,
-            }
-        } else {
-            match self.images.get(slot) {
-                Some(it) => close_image(&mut *lock_soon(rt, it), at.source),
-                None => None,
-            }
-        }
-    }
 }

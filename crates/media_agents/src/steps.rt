@@ -8,14 +8,18 @@ ghost use Rattle.std.specs.Prelude.{◌≡◌, All};
 use crate::finding::find;
 use crate::journal::Stamp;
 use crate::noting::{Noting, is_cut, keep_entry, keep_packet, keep_sending, keep_turn};
-use crate::slots::{LogAt, Slots};
+use crate::slots::{
+    LogAt, Logs, Slots, ask_image, close_image, close_publication, rejoin_image, rejoin_publication,
+};
 use crate::stepping::{Stepped, Stepping, come_to, report_at, send_at};
 use crate::tallying::{is_asking, is_counted};
+use crate::unopened::{Unopened, open_image, open_publication};
 use channel_uri::Address;
 use driver_core::{Event, Response};
+use driver_steps::OpenLog;
 use drop_tallies::Miss;
 use frame_codec::Packet;
-use log_slots::Naming;
+use log_slots::{Naming, lock_soon};
 use policy_core::Decision;
 use published_registry::{Look, Pass};
 use std::alloc::Global;
@@ -139,6 +143,69 @@ impl<N: Naming> Noting for Steps<N> {
                 decisions,
                 stamp,
             );
+        }
+    }
+}
+
+impl<N: Naming> Logs<N> for Steps<N> {
+    ghost did = { λ steps accesses. All (IsOf N.home) accesses };
+
+    fn rejoin<R: Wait>(&mut self, rt: &R, at: LogAt, subscriptions: &[u64]) -> Option<u64> {
+        let slot = at.slot as usize;
+        if at.published {
+            match self.slots.publications.get(slot) {
+                Some(it) => rejoin_publication(&mut *lock_soon(rt, it), at.source, subscriptions),
+                None => None,
+            }
+        } else {
+            match self.slots.images.get(slot) {
+                Some(it) => rejoin_image(&mut *lock_soon(rt, it), at.source, subscriptions),
+                None => None,
+            }
+        }
+    }
+
+    fn is_silent<R: Wait>(&mut self, rt: &R, at: LogAt, now: u64, limit: u64) -> bool {
+        match self.slots.images.get(at.slot as usize) {
+            Some(it) => ask_image(&*lock_soon(rt, it), at.source, now, limit),
+            None => false,
+        }
+    }
+
+    fn open<R: Wait>(
+        &mut self,
+        rt: &R,
+        at: LogAt,
+        log: OpenLog,
+        session: i32,
+        stream: i32,
+    ) -> Result<(), Unopened> {
+        let slot = at.slot as usize;
+        if at.published {
+            match self.slots.publications.get(slot) {
+                Some(it) => open_publication(&mut *lock_soon(rt, it), log, session, stream),
+                None => Err(Unopened::no_publication(&*self.slots, at, log)),
+            }
+        } else {
+            match self.slots.images.get(slot) {
+                Some(it) => open_image(&mut *lock_soon(rt, it), log, session, stream),
+                None => Err(Unopened::no_image(&*self.slots, at, log)),
+            }
+        }
+    }
+
+    fn close<R: Wait>(&mut self, rt: &R, at: LogAt) -> Option<OpenLog> {
+        let slot = at.slot as usize;
+        if at.published {
+            match self.slots.publications.get(slot) {
+                Some(it) => close_publication(&mut *lock_soon(rt, it), at.source),
+                None => None,
+            }
+        } else {
+            match self.slots.images.get(slot) {
+                Some(it) => close_image(&mut *lock_soon(rt, it), at.source),
+                None => None,
+            }
         }
     }
 }

@@ -4,14 +4,14 @@ ghost use Rattle.driver_core.specs.Conduct.{state_after};
 ghost use Rattle.driver_core.specs.Soundness.{IsSound};
 ghost use Rattle.driver_steps.specs.Opening.{memory_of};
 ghost use Rattle.log_slots.specs.Opening.{room_of};
-ghost use Rattle.media_agents.specs.Acts.{GoesOn, Writes};
+ghost use Rattle.media_agents.specs.Acts.{Each, GoesOn, Then, Writes};
 ghost use Rattle.media_agents.specs.Answering.{Answers, IsAnswer, question_in};
-ghost use Rattle.media_agents.specs.Asking.{AreSilent, IsRowClosed, Settles, closing};
+ghost use Rattle.media_agents.specs.Asking.{AreSilent, IsRowClosed, JoinsSome, LeavesIt, Settles, closing};
 ghost use Rattle.media_agents.specs.Desks.{Reports, assigned_by};
-ghost use Rattle.media_agents.specs.Following.{ClosesEach, Follows, OpensNext, Undoes, coming};
+ghost use Rattle.media_agents.specs.Following.{Follows, Leaves, OpensNext, Undoes, coming};
 ghost use Rattle.media_agents.specs.Journals.{after_entry, stamp_of};
 ghost use Rattle.media_agents.specs.Mails.{PostsEach, TellsAll};
-ghost use Rattle.media_agents.specs.Works.{Declines, Does, Makes, Misses, events_made, known_of, with_entry};
+ghost use Rattle.media_agents.specs.Works.{Declines, Does, Makes, MakesWith, Misses, events_made, known_of, with_entry};
 ghost use Rattle.published_registry.specs.Histories.{IsPlannedOn, registry_of};
 ghost use Rattle.std.specs.Prelude.{◌≡◌, ◌+◌, ◌<◌, ◌^◌, ◌++◌, ◌∷◌, [], length, All, IfOk, IfSome, MatchBool, OnErr, OnOk, Some};
 
@@ -35,7 +35,7 @@ use published_registry::{Publisher, Receipt};
 use rows::Rows;
 use std::alloc::{AllocError, Global};
 use std::marker::Model;
-use std::sync::{Arc, Wait};
+use std::sync::Wait;
 use stream_registry::{LogPlace, Pair};
 
 /// What the conductor works on.
@@ -43,9 +43,10 @@ pub struct Works<N: DriverNaming, L, D, T> {
     /// It is taken out for as long as an entry is committed.
     publisher: Option<Publisher>,
     rings: Rings<N>,
-    desk: Arc<D>,
+    /// Where it answers the driver's owner.
+    desk: D,
     region: Region<N>,
-    logs: Arc<L>,
+    logs: L,
     /// Where it notes what came of each entry.
     notes: T,
     /// Room for the subscriptions that read one log.
@@ -63,8 +64,8 @@ impl<N: DriverNaming, L, D, T> Model for Works<N, L, D, T> {
 
     ghost view = { λ works. record {
       history = history_in works.publisher;
-      logs = works.logs.value;
-      desk = works.desk.value;
+      logs = works.logs;
+      desk = works.desk;
       notes = works.notes;
       region = works.region;
       rings = works.rings;
@@ -78,7 +79,7 @@ fn publish<N: DriverNaming, L: Logs<N>, R: Wait>(
     rt: &R,
     publisher: Publisher,
     region: &mut Region<N>,
-    logs: &L,
+    logs: &mut L,
     room: &mut Rows<u64, 512>,
     entry: Entry,
     memory: LogMemory,
@@ -89,8 +90,8 @@ fn publish<N: DriverNaming, L: Logs<N>, R: Wait>(
     requires sound { IsSound (state_after (registry_of publisher) entry.event entry.inputs) }
     ensures published { OnOk result.1 (result.0 ≡ with_entry entry publisher) }
     ensures receipt { IfOk result.1 (λ receipt. receipt ≡ known_of result.0) }
-    ensures opens { OnOk result.1 (OpensNext (L.held logs.now) N.home (registry_of result.0) (room_of memory) opens region.old region.new) }
-    ensures err { OnErr result.1 ((result.0 ≡ publisher) × (region.new ≡ region.old)) }
+    ensures opens { OnOk result.1 (GoesOn (OpensNext N.home (registry_of result.0) (room_of memory) opens region.old region.new) (L.did logs.old) (L.did logs.new)) }
+    ensures err { OnErr result.1 ((result.0 ≡ publisher) × (region.new ≡ region.old) × (logs.new ≡ logs.old)) }
 {
     match publisher.begin(entry) {
         Ok(begun) => {
@@ -127,10 +128,10 @@ fn end_with<N: DriverNaming, L: Logs<N>, R: Wait>(
     rt: &R,
     publisher: Publisher,
     region: &mut Region<N>,
-    logs: &L,
+    logs: &mut L,
 ) -> Registry
     ensures registry { result ≡ registry_of publisher }
-    ensures closed { All (IsRowClosed (L.held logs.now)) result.streams.sources }
+    ensures closed { GoesOn (Each IsRowClosed result.streams.sources) (L.did logs.old) (L.did logs.new) }
 {
     let registry = publisher.end(rt);
     close_live(rt, region, logs, &registry);
@@ -142,16 +143,16 @@ impl<N: DriverNaming, L: Logs<N> + Drop, D: Desks<N> + Drop, T: Noting + Drop> W
     pub fn new(
         publisher: Publisher,
         rings: Rings<N>,
-        desk: Arc<D>,
+        desk: D,
         region: Region<N>,
-        logs: Arc<L>,
+        logs: L,
         notes: T,
         room: Rows<u64, 512>,
         alloc: Global,
     ) -> Works<N, L, D, T>
         requires ours { publisher.book ≡ N.book }
         requires sound { IsSound (registry_of publisher) }
-        ensures { result ≡ record { history = publisher; logs = logs.value; desk = desk.value; notes = notes; region = region; rings = rings } }
+        ensures { result ≡ record { history = publisher; logs = logs; desk = desk; notes = notes; region = region; rings = rings } }
     {
         Works {
             publisher: Some(publisher),
@@ -196,9 +197,9 @@ impl<N: DriverNaming, L: Logs<N> + Drop, D: Desks<N> + Drop, T: Noting + Drop> W
         requires room { length self.old.history.entries + 1 < 2 ^ 64 }
         requires planned { IsPlannedOn (registry_of self.old.history) entry }
         requires sound { IsSound (state_after (registry_of self.old.history) entry.event entry.inputs) }
-        ensures done { OnOk result (self.new ≡ record self.old { history = with_entry entry self.old.history; region = self.new.region }) }
+        ensures done { OnOk result (self.new ≡ record self.old { history = with_entry entry self.old.history; logs = self.new.logs; region = self.new.region }) }
         ensures receipt { IfOk result (λ receipt. receipt ≡ known_of self.new.history) }
-        ensures opens { OnOk result (OpensNext (L.held self.old.logs) N.home (registry_of self.new.history) (room_of memory) opens self.old.region self.new.region) }
+        ensures opens { OnOk result (GoesOn (OpensNext N.home (registry_of self.new.history) (room_of memory) opens self.old.region self.new.region) (L.did self.old.logs) (L.did self.new.logs)) }
         ensures err { OnErr result (self.new ≡ self.old) }
     {
         let Some(publisher) = self.publisher.take() else {
@@ -208,7 +209,7 @@ impl<N: DriverNaming, L: Logs<N> + Drop, D: Desks<N> + Drop, T: Noting + Drop> W
             rt,
             publisher,
             &mut self.region,
-            &*self.logs,
+            &mut self.logs,
             &mut self.room,
             entry,
             memory,
@@ -225,10 +226,9 @@ impl<N: DriverNaming, L: Logs<N> + Drop, D: Desks<N> + Drop, T: Noting + Drop> W
     fn finish<R: Wait>(&mut self, rt: &R, receipt: &Receipt, aftermath: &Aftermath)
         requires ours { receipt.now.book ≡ N.book }
         requires held { TellsAll receipt.now.entries aftermath.now.replies }
-        ensures gone { All (Settles (L.held self.old.logs) (registry_of self.old.history)) aftermath.now.gone }
-        ensures closes { ClosesEach (L.held self.old.logs) aftermath.now.closes self.old.region self.new.region }
+        ensures leaves { GoesOn (Leaves (registry_of self.old.history) aftermath.now.gone aftermath.now.closes self.old.region self.new.region) (L.did self.old.logs) (L.did self.new.logs) }
         ensures mails { PostsEach receipt.now aftermath.now.replies self.old.rings self.new.rings }
-        ensures same { self.new ≡ record self.old { region = self.new.region; rings = self.new.rings } }
+        ensures same { self.new ≡ record self.old { logs = self.new.logs; region = self.new.region; rings = self.new.rings } }
     {
         let Some(publisher) = &self.publisher else {
             unreachable!()
@@ -236,7 +236,7 @@ impl<N: DriverNaming, L: Logs<N> + Drop, D: Desks<N> + Drop, T: Noting + Drop> W
         follow(
             rt,
             &mut self.region,
-            &*self.logs,
+            &mut self.logs,
             publisher.newest(),
             &mut self.room,
             aftermath,
@@ -260,12 +260,12 @@ impl<N: DriverNaming, L: Logs<N> + Drop, D: Desks<N> + Drop, T: Noting + Drop> W
         requires gone { ready.aftermath.gone ≡ ready.entry.outcome.gone }
         requires replies { ready.aftermath.replies ≡ ready.entry.outcome.replies }
         requires decisions { ready.aftermath.decisions ≡ ready.entry.outcome.decisions }
-        ensures done { OnOk result (self.new ≡ record self.old { history = with_entry ready.entry self.old.history; region = self.new.region; rings = self.new.rings }) }
+        ensures done { OnOk result (self.new ≡ record self.old { history = with_entry ready.entry self.old.history; logs = self.new.logs; region = self.new.region; rings = self.new.rings }) }
         ensures response { IfOk result (λ made. ready.entry.outcome.response ≡ made.response) }
         ensures decisions { IfOk result (λ made. ready.entry.outcome.decisions ≡ made.decisions) }
         ensures receipt { IfOk result (λ made. made.receipt ≡ known_of self.new.history) }
         ensures ours { IfOk result (λ made. made.receipt.book ≡ N.book) }
-        ensures follows { OnOk result (Follows (L.held self.old.logs) N.home (registry_of self.old.history) (registry_of self.new.history) ready.entry self.old.region self.new.region) }
+        ensures follows { OnOk result (GoesOn (Follows N.home (registry_of self.old.history) (registry_of self.new.history) ready.entry self.old.region self.new.region) (L.did self.old.logs) (L.did self.new.logs)) }
         ensures mails { IfOk result (λ made. PostsEach made.receipt ready.entry.outcome.replies self.old.rings self.new.rings) }
         ensures err { OnErr result (self.new ≡ self.old) }
     {
@@ -297,11 +297,11 @@ impl<N: DriverNaming, L: Logs<N> + Drop, D: Desks<N> + Drop, T: Noting + Drop> W
         foreseen: &Foreseen,
     ) -> Result<Made, AllocError>
         requires room { length self.old.history.entries + 1 < 2 ^ 64 }
-        requires silent { AreSilent (L.held self.old.logs) (registry_of self.old.history) event.now foreseen.now.silent }
         requires come { foreseen.now.come ≡ coming (registry_of self.old.history) event.now foreseen.now.silent }
-        ensures makes { IfOk result (λ made. Makes L.held D.held N.home event.now self.old self.new made.response made.decisions made.receipt) }
+        ensures makes { IfOk result (λ made. MakesWith L.did N.home foreseen.now.silent event.now self.old self.new made.response made.decisions made.receipt) }
         ensures ours { IfOk result (λ made. made.receipt.book ≡ N.book) }
-        ensures err { OnErr result (self.new ≡ self.old) }
+        ensures some { OnErr result (GoesOn (JoinsSome (registry_of self.old.history) foreseen.now.come) (L.did self.old.logs) (L.did self.new.logs)) }
+        ensures err { OnErr result (self.new ≡ record self.old { logs = self.new.logs }) }
     {
         let Some(publisher) = &self.publisher else {
             unreachable!()
@@ -309,7 +309,7 @@ impl<N: DriverNaming, L: Logs<N> + Drop, D: Desks<N> + Drop, T: Noting + Drop> W
         let ready = plan_joined(
             rt,
             self.alloc,
-            &*self.logs,
+            &mut self.logs,
             publisher.newest(),
             &mut self.room,
             event,
@@ -320,13 +320,19 @@ impl<N: DriverNaming, L: Logs<N> + Drop, D: Desks<N> + Drop, T: Noting + Drop> W
 
     /// The logs of these pairs are read as the newest registry says.
     fn settle_pairs<R: Wait>(&mut self, rt: &R, pairs: &[Pair])
-        ensures settled { All (Settles (L.held self.old.logs) (registry_of self.old.history)) pairs.now }
-        ensures same { self.new ≡ self.old }
+        ensures settled { GoesOn (Each (Settles (registry_of self.old.history)) pairs.now) (L.did self.old.logs) (L.did self.new.logs) }
+        ensures same { self.new ≡ record self.old { logs = self.new.logs } }
     {
         let Some(publisher) = &self.publisher else {
             unreachable!()
         };
-        settle(rt, &*self.logs, publisher.newest(), &mut self.room, pairs);
+        settle(
+            rt,
+            &mut self.logs,
+            publisher.newest(),
+            &mut self.room,
+            pairs,
+        );
     }
 
     /// The same. Where no entry is made, the logs that were joined for it are read as before.
@@ -337,12 +343,11 @@ impl<N: DriverNaming, L: Logs<N> + Drop, D: Desks<N> + Drop, T: Noting + Drop> W
         foreseen: &Foreseen,
     ) -> Result<Made, AllocError>
         requires room { length self.old.history.entries + 1 < 2 ^ 64 }
-        requires silent { AreSilent (L.held self.old.logs) (registry_of self.old.history) event.now foreseen.now.silent }
         requires come { foreseen.now.come ≡ coming (registry_of self.old.history) event.now foreseen.now.silent }
-        ensures makes { IfOk result (λ made. Makes L.held D.held N.home event.now self.old self.new made.response made.decisions made.receipt) }
+        ensures makes { IfOk result (λ made. MakesWith L.did N.home foreseen.now.silent event.now self.old self.new made.response made.decisions made.receipt) }
         ensures ours { IfOk result (λ made. made.receipt.book ≡ N.book) }
-        ensures undone { OnErr result (All (Settles (L.held self.old.logs) (registry_of self.old.history)) foreseen.now.come) }
-        ensures err { OnErr result (self.new ≡ self.old) }
+        ensures undone { OnErr result (GoesOn (Then (JoinsSome (registry_of self.old.history) foreseen.now.come) (Each (Settles (registry_of self.old.history)) foreseen.now.come)) (L.did self.old.logs) (L.did self.new.logs)) }
+        ensures err { OnErr result (self.new ≡ record self.old { logs = self.new.logs }) }
     {
         let taken = self.take_joined(rt, event, foreseen);
         if taken.is_err() {
@@ -351,24 +356,31 @@ impl<N: DriverNaming, L: Logs<N> + Drop, D: Desks<N> + Drop, T: Noting + Drop> W
         taken
     }
 
+    /// The logs are asked which images are silent, and it is found which pairs would come.
+    fn foresee_event<R: Wait>(&mut self, rt: &R, event: &Event) -> Result<Foreseen, AllocError>
+        ensures silent { IfOk result (λ foreseen. GoesOn (AreSilent (registry_of self.old.history) event.now foreseen.silent) (L.did self.old.logs) (L.did self.new.logs)) }
+        ensures come { IfOk result (λ foreseen. foreseen.come ≡ coming (registry_of self.old.history) event.now foreseen.silent) }
+        ensures err { OnErr result (GoesOn (All LeavesIt) (L.did self.old.logs) (L.did self.new.logs)) }
+        ensures same { self.new ≡ record self.old { logs = self.new.logs } }
+    {
+        let Some(publisher) = &self.publisher else {
+            unreachable!()
+        };
+        foresee(rt, self.alloc, &mut self.logs, publisher.newest(), event)
+    }
+
     /// The conductor takes an event, and the logs follow.
     ///
     /// # Errors
-    /// Nothing is changed where there is no memory.
+    /// Nothing is changed where there is no memory: the logs are read as before.
     fn take<R: Wait>(&mut self, rt: &R, event: &Event) -> Result<Made, AllocError>
         requires room { length self.old.history.entries + 1 < 2 ^ 64 }
-        ensures makes { IfOk result (λ made. Makes L.held D.held N.home event.now self.old self.new made.response made.decisions made.receipt) }
+        ensures makes { IfOk result (λ made. Makes L.did N.home event.now self.old self.new made.response made.decisions made.receipt) }
         ensures ours { IfOk result (λ made. made.receipt.book ≡ N.book) }
-        ensures undone { OnErr result (Undoes (L.held self.old.logs) (registry_of self.old.history) event.now) }
-        ensures err { OnErr result (self.new ≡ self.old) }
+        ensures undone { OnErr result (GoesOn (Undoes (registry_of self.old.history) event.now) (L.did self.old.logs) (L.did self.new.logs)) }
+        ensures err { OnErr result (self.new ≡ record self.old { logs = self.new.logs }) }
     {
-        let foreseen = foresee(
-            rt,
-            self.alloc,
-            &*self.logs,
-            self.publisher().newest(),
-            event,
-        )?;
+        let foreseen = self.foresee_event(rt, event)?;
         self.take_foreseen(rt, event, &foreseen)
     }
 
@@ -382,8 +394,8 @@ impl<N: DriverNaming, L: Logs<N> + Drop, D: Desks<N> + Drop, T: Noting + Drop> W
     )
         requires ours { receipt.book ≡ N.book }
         requires answer { IfSome question (λ question. IsAnswer question response receipt) }
-        ensures reports { Reports (D.held self.old.desk) question response receipt self.old.rings self.new.rings }
-        ensures same { self.new ≡ record self.old { rings = self.new.rings } }
+        ensures reports { Reports D.told question response receipt (self.old.desk, self.old.rings) (self.new.desk, self.new.rings) }
+        ensures same { self.new ≡ record self.old { desk = self.new.desk; rings = self.new.rings } }
     {
         if let Some(question) = question {
             let ring = self.desk.answer(rt, question, response, receipt);
@@ -394,8 +406,8 @@ impl<N: DriverNaming, L: Logs<N> + Drop, D: Desks<N> + Drop, T: Noting + Drop> W
     /// What is answered to an event for which there was no memory: the client gets a reply that no entry holds, with the
     /// receipt of the newest one.
     fn refuse<R: Wait>(&mut self, rt: &R, event: &Event)
-        ensures declines { Declines (D.held self.old.desk) event.now (known_of self.old.history) self.old.rings self.new.rings }
-        ensures same { self.new ≡ record self.old { rings = self.new.rings } }
+        ensures declines { Declines D.told event.now (known_of self.old.history) (self.old.desk, self.old.rings) (self.new.desk, self.new.rings) }
+        ensures same { self.new ≡ record self.old { desk = self.new.desk; rings = self.new.rings } }
     {
         let receipt = self.publisher().receipt();
         match event {
@@ -424,8 +436,8 @@ impl<N: DriverNaming, L: Logs<N> + Drop, D: Desks<N> + Drop, T: Noting + Drop> W
         requires ours { made.receipt.book ≡ N.book }
         requires answer { Answers event.now made.response made.receipt.entries }
         ensures notes { GoesOn (Writes (after_entry event.now made.response made.decisions (stamp_of self.old.history))) (T.wrote self.old.notes) (T.wrote self.new.notes) }
-        ensures reports { Reports (D.held self.old.desk) (question_in event.now) (Some made.response) made.receipt self.old.rings self.new.rings }
-        ensures same { self.new ≡ record self.old { notes = self.new.notes; rings = self.new.rings } }
+        ensures reports { Reports D.told (question_in event.now) (Some made.response) made.receipt (self.old.desk, self.old.rings) (self.new.desk, self.new.rings) }
+        ensures same { self.new ≡ record self.old { desk = self.new.desk; notes = self.new.notes; rings = self.new.rings } }
     {
         let stamp = self.stamp();
         self.notes.note_entry(rt, event, &made.response, made.decisions.as_slice(), stamp);
@@ -440,7 +452,7 @@ impl<N: DriverNaming, L: Logs<N> + Drop, D: Desks<N> + Drop, T: Noting + Drop> W
     /// An entry is made of the event, and all that follows it is done; or it is refused.
     fn serve<R: Wait>(&mut self, rt: &R, event: &Event) -> bool
         requires room { length self.old.history.entries + 1 < 2 ^ 64 }
-        ensures { MatchBool result (Does L.held D.held N.home T.wrote self.old event.now self.new) (Misses L.held D.held N.home self.old event.now self.new) }
+        ensures { MatchBool result (Does L.did D.told N.home T.wrote self.old event.now self.new) (Misses L.did D.told N.home self.old event.now self.new) }
     {
         match self.take(rt, event) {
             Ok(made) => {
@@ -454,24 +466,27 @@ impl<N: DriverNaming, L: Logs<N> + Drop, D: Desks<N> + Drop, T: Noting + Drop> W
         }
     }
 
-    /// Ends the driver and gives its last registry: nobody gets a look at it any more, and each of its logs closes. It waits
-    /// until each look has ended.
-    pub fn end<R: Wait>(self, rt: &R) -> Registry
-        ensures registry { result ≡ registry_of self.history }
-        ensures closed { All (IsRowClosed (L.held self.logs)) result.streams.sources }
+    /// Ends the driver and gives its last registry, and the way to its logs: nobody gets a look at the registry any more, and
+    /// each of its logs closes. It waits until each look has ended.
+    pub fn end<R: Wait>(self, rt: &R) -> (Registry, L)
+        ensures registry { result.0 ≡ registry_of self.history }
+        ensures closed { GoesOn (Each IsRowClosed result.0.streams.sources) (L.did self.logs) (L.did result.1) }
     {
         let Works {
             publisher,
             rings: _,
             desk: _,
             mut region,
-            logs,
+            mut logs,
             notes: _,
             room: _,
             alloc: _,
         } = self;
         match publisher {
-            Some(publisher) => end_with(rt, publisher, &mut region, &*logs),
+            Some(publisher) => {
+                let registry = end_with(rt, publisher, &mut region, &mut logs);
+                (registry, logs)
+            }
             None => unreachable!(),
         }
     }
@@ -481,9 +496,9 @@ impl<N: DriverNaming, L: Logs<N> + Drop, D: Desks<N> + Drop, T: Noting + Drop> C
     for Works<N, L, D, T> {
     ghost history = { events_made };
 
-    ghost does = { λ old event new. Does L.held D.held N.home T.wrote old event new };
+    ghost does = { λ old event new. Does L.did D.told N.home T.wrote old event new };
 
-    ghost misses = { λ old event new. Misses L.held D.held N.home old event new };
+    ghost misses = { λ old event new. Misses L.did D.told N.home old event new };
 
     fn is_full(&self) -> bool {
         self.number() == u64::MAX

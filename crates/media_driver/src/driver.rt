@@ -13,7 +13,7 @@ use crate::starting::Common;
 use crate::threads::{Running, begin};
 use crate::works::{Conducting, Turns, Work};
 use log_slots::Region;
-use media_agents::{Backoff, Clock, Conductor, DriverNaming, Gate, Works};
+use media_agents::{Backoff, Clock, Conductor, DeskAnswers, DriverNaming, Gate, Steps, Works};
 use media_wire::Wire;
 use published_registry::Publisher;
 use std::alloc::Global;
@@ -68,9 +68,9 @@ fn make_conductor<N: DriverNaming, R: Wait + Copy + Drop, G: Gate + Drop>(
     let works = Works::new(
         publisher,
         rings,
-        desk,
+        DeskAnswers::new(desk),
         Region::new(arena),
-        slots,
+        Steps::new(slots),
         notes,
         room,
         alloc,

@@ -2,11 +2,11 @@
 
 use log_slots::Naming;
 use media_agents::{
-    Clock, Conductor, Desk, DriverNaming, Gate, ReceiverAgent, SenderAgent, Slots, Steps,
+    Clock, Conductor, DeskAnswers, DriverNaming, Gate, ReceiverAgent, SenderAgent, Steps,
 };
 use media_wire::Wire;
 use std::sync::atomic::{AtomicBool, Ordering};
-use std::sync::{Arc, Mutex, Wait};
+use std::sync::{Arc, Wait};
 
 /// What a thread does again and again.
 pub(crate) trait Turns {
@@ -41,7 +41,7 @@ impl<T: Turns + Drop, C: Clock + Drop> Work<T, C> {
 /// The conductor. However its thread ends, the driver's logs close, and nobody gets a look at its registry any more.
 pub(crate) struct Conducting<N: DriverNaming, R: Wait + Drop, G: Gate + Drop> {
     pub(crate) rt: R,
-    pub(crate) conductor: Conductor<N, Slots<N>, Mutex<Desk<N>>, Steps<N>, G>,
+    pub(crate) conductor: Conductor<N, Steps<N>, DeskAnswers<N>, Steps<N>, G>,
 }
 
 impl<N: DriverNaming, R: Wait + Drop, G: Gate + Drop> Drop for Conducting<N, R, G> {

@@ -1,11 +1,11 @@
 use Rattle.std.proofs.Common.{List, subst}
 use Rattle.std.proofs.lemmas.List.{take_all}
 use Rattle.channel_uri.specs.declared.address.Address.{Address}
-use Rattle.media_agents.specs.Acts.{GoesOn, Trail}
+use Rattle.media_agents.specs.Acts.{Chain, GoesOn, Trail}
 use Rattle.media_agents.proofs.ChainLemmas.{chain_none, chain_on}
 use Rattle.media_agents.proofs.LookLemmas.{continues, stays_known}
 use Rattle.media_agents.proofs.SetUpLemmas.{sets_up_more, sets_up_none}
-use Rattle.media_agents.specs.Traffic.{Chain, HearsOut, ReceiverTakes}
+use Rattle.media_agents.specs.Traffic.{HearsOut, ReceiverTakes}
 use Rattle.media_agents.proofs.receiving.hear_each.Goals as goal
 
 pub loop-endpoint-init : goal.loop-endpoint-init

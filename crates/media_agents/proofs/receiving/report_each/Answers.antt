@@ -1,10 +1,10 @@
 use Rattle.std.proofs.Common.{List, subst}
 use Rattle.std.proofs.lemmas.List.{take_all}
-use Rattle.media_agents.specs.Acts.{GoesOn, Trail}
+use Rattle.media_agents.specs.Acts.{Chain, GoesOn, Trail}
 use Rattle.media_agents.specs.declared.listing.ImageAt.{ImageAt}
 use Rattle.media_agents.proofs.ChainLemmas.{chain_none, chain_on}
 use Rattle.media_agents.proofs.LookLemmas.{continues, stays_known}
-use Rattle.media_agents.specs.Traffic.{Chain, ReportsOne}
+use Rattle.media_agents.specs.Traffic.{ReportsOne}
 use Rattle.media_agents.proofs.receiving.report_each.Goals as goal
 
 pub loop-image-init : goal.loop-image-init

@@ -1,6 +1,6 @@
 use Rattle.std.proofs.Common.{take}
-use Rattle.media_agents.specs.Acts.{GoesOn, Trail}
-use Rattle.media_agents.specs.Traffic.{Chain, ReportsOne}
+use Rattle.media_agents.specs.Acts.{Chain, GoesOn, Trail}
+use Rattle.media_agents.specs.Traffic.{ReportsOne}
 use Rattle.published_registry.specs.Histories.{IsContinuedBy}
 use Rattle.media_agents.proofs.receiving.report_each.Given as goal
 

@@ -1,10 +1,10 @@
 use Rattle.std.proofs.Common.{List, subst}
 use Rattle.std.proofs.lemmas.List.{take_all}
-use Rattle.media_agents.specs.Acts.{GoesOn, Trail}
+use Rattle.media_agents.specs.Acts.{Chain, GoesOn, Trail}
 use Rattle.media_agents.specs.declared.slots.LogAt.{LogAt}
 use Rattle.media_agents.proofs.ChainLemmas.{chain_none, chain_on}
 use Rattle.media_agents.proofs.LookLemmas.{continues, stays_known}
-use Rattle.media_agents.specs.Traffic.{Chain, SendsRun}
+use Rattle.media_agents.specs.Traffic.{SendsRun}
 use Rattle.media_agents.proofs.sending.send_each.Goals as goal
 
 pub loop-at-init : goal.loop-at-init

@@ -1,6 +1,6 @@
 use Rattle.std.proofs.Common.{take}
-use Rattle.media_agents.specs.Acts.{GoesOn, Trail}
-use Rattle.media_agents.specs.Traffic.{Chain, SendsRun}
+use Rattle.media_agents.specs.Acts.{Chain, GoesOn, Trail}
+use Rattle.media_agents.specs.Traffic.{SendsRun}
 use Rattle.published_registry.specs.Histories.{IsContinuedBy}
 use Rattle.media_agents.proofs.sending.send_each.Given as goal
 
