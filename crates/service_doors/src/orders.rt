@@ -12,7 +12,7 @@ use program_parts::{Machine, SECOND, ticks};
 use service_records::{Answer, Request, first_record};
 use service_streams::dismiss;
 use std::alloc::Global;
-use std::io::{Read, Write};
+use std::io::{ErrorKind, Read, Write};
 use std::os::unix::net::UnixStream;
 use std::time::Duration;
 
@@ -43,7 +43,7 @@ fn asked_by(bytes: &[u8]) -> Asked
     }
 }
 
-/// More bytes come. Whether they did.
+/// More bytes come. Whether more may come: a read that a signal interrupts is made again.
 fn read_more<T: Read>(stream: &mut T, bytes: &mut Vec<u8>) -> bool {
     let mut chunk = [0u8; 64];
     match stream.read(&mut chunk) {
@@ -52,7 +52,7 @@ fn read_more<T: Read>(stream: &mut T, bytes: &mut Vec<u8>) -> bool {
             let more = chunk.get(..count).unwrap_or(&[]);
             bytes.extend_from_slice(more).is_ok()
         }
-        Err(_) => false,
+        Err(error) => error.kind() == ErrorKind::Interrupted,
     }
 }
 
