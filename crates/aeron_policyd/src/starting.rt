@@ -318,6 +318,21 @@ fn patience_of(doors: &Doors<'_>, settings: &Settings) -> Patience {
     }
 }
 
+/// A driver that serves may go without an address from which it sends, if none was chosen: its clients then have IPC, and what
+/// comes over UDP. It is said.
+fn say_if_taken<R: Machine>(rt: &R, words: &[&str], address: Address) -> Result<(), Fault> {
+    match can_open(rt, address) {
+        Ok(()) => Ok(()),
+        Err(fault) if chooses(words, "send-address") => Err(fault),
+        Err(fault) => {
+            let _ = eprintln!(*rt;
+                "{fault}: nothing is sent over UDP, unless --setting send-address names a free address"
+            );
+            Ok(())
+        }
+    }
+}
+
 /// A driver serves clients of other processes.
 fn serve<R: Machine, F: Disk>(rt: &R, files: &F, doors: &Doors<'_>) -> Result<(), Fault> {
     let alloc = rt.alloc();
@@ -331,6 +346,7 @@ fn serve<R: Machine, F: Disk>(rt: &R, files: &F, doors: &Doors<'_>) -> Result<()
     let peers = peers_of(rt, names.directory.names(), doors.peers)?;
     let plans = plans_of(rt, names.directory.names(), doors.doors)?;
     let settings = settings_for(rt, doors.settings, publisher_address(None))?;
+    say_if_taken(rt, doors.settings, settings.send_address)?;
     let work = Serve {
         serving: serving_of(doors, &settings),
         patience: patience_of(doors, &settings),
