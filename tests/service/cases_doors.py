@@ -90,11 +90,11 @@ def case_the_mode_does_not_depend_on_the_umask(room):
             same("mode of %s" % name, 0o600, stat.S_IMODE(found.st_mode))
 
 
-def refused(room, folder, *doors):
+def refused(room, folder, *doors, more=()):
     """A driver that does not start: what it says."""
     room.policy(ALLOW)
     words = [word for door in doors or ("p1",) for word in ("--door", door)]
-    status, out, err = room.call("serve", "--policy", room.policy_path, "--folder", folder, *words)
+    status, out, err = room.call("serve", "--policy", room.policy_path, "--folder", folder, *words, *more)
     same("status", (1, ""), (status, out))
     return err.strip().splitlines()[-1]
 
@@ -123,6 +123,27 @@ def case_a_second_driver_on_the_same_folder(room):
     with aeron_policyd.connect(room.at("p2")) as two:
         two.keepalive()
     same("what is in the folder", ["operator.sock", "p1.sock", "p2.sock"], sorted(os.listdir(room.folder)))
+
+
+def case_a_send_address_that_is_taken(room):
+    """One that was chosen is a fault; without one that was not, IPC is served, and it is said."""
+    with socket.socket(socket.AF_INET, socket.SOCK_DGRAM) as taken:
+        taken.bind(("127.0.0.1", 0))
+        address = "127.0.0.1:%d" % taken.getsockname()[1]
+        words = refused(room, room.folder, more=("--setting", "send-address=" + address))
+        same("one that was chosen", "aeron_policyd: cannot open %s" % address, words)
+    with socket.socket(socket.AF_INET, socket.SOCK_DGRAM) as taken:
+        try:
+            taken.bind(("127.0.0.1", 40000))
+        except OSError:
+            # somebody else has it
+            pass
+        driver = room.serve()
+        wanted = "cannot open 127.0.0.1:40000: nothing is sent over UDP, unless --setting send-address names a free address"
+        same("what is said", [wanted, "serving"], said(driver.err).splitlines())
+        with aeron_policyd.connect(room.at("p1")) as one, aeron_policyd.connect(room.at("p2")) as two:
+            one.keepalive()
+            two.keepalive()
 
 
 def case_a_path_of_two_hundred_bytes(room):

@@ -2,6 +2,7 @@
 
 import os
 import random
+import signal
 import socket
 import struct
 import time
@@ -273,6 +274,27 @@ def case_records_come_in_pieces(room):
         if answers != [(BYE, *NOTHING_ASKED)]:
             break
     same("an operator's request in pieces", [(DONE, 0, "")], answers)
+
+
+def case_a_driver_that_was_stopped_goes_on(room):
+    """A driver that is stopped and continued while it reads an operator's request answers it."""
+    driver = room.serve()
+    for _ in range(TRIES):
+        with Peer(room.at("operator")) as operator:
+            # it reads by now
+            time.sleep(0.02)
+            os.kill(driver.pid, signal.SIGSTOP)
+            os.kill(driver.pid, signal.SIGCONT)
+            try:
+                operator.send(record(STATUS))
+            except OSError:
+                # it gave up already
+                pass
+            answers = [(kind, code_of(body), words_of(body)) for kind, body in operator.rest()]
+        # one that is held up for 200 ms is told that it asks for nothing
+        if answers != [(BYE, *NOTHING_ASKED)]:
+            break
+    same("an operator's request", [(DONE, 0, "")], answers)
 
 
 def case_forged_bytes(room):
