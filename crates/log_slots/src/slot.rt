@@ -9,15 +9,15 @@ ghost use Rattle.driver_steps.specs.Packets.{IsSoundContent, packet_move};
 ghost use Rattle.driver_steps.specs.Sending.{send_move};
 ghost use Rattle.frame_codec.specs.Datagram.{content};
 ghost use Rattle.learnt_addresses.specs.Laws.{AreOrderly};
-ghost use Rattle.log_slots.specs.Counting.{Adds, IsCounted, settled_of, taken_by};
+ghost use Rattle.log_slots.specs.Counting.{IsCounted, IsFull, Passes, settled_of, taken_by};
 ghost use Rattle.log_slots.specs.Positions.{consumed_in, is_limit, noted_if, positions_in, reading_in};
 ghost use Rattle.log_slots.specs.Slots.{DecidesHeard, DecidesIn, GivesHeard, GivesIn, Hears, IsMadeFor, IsSlot, Moves, log_of, messages_in, packet_decision, reach_in, with_readers, without_log};
-ghost use Rattle.std.specs.Prelude.{◌≡◌, ◌≢◌, ◌+◌, ◌<◌, ◌≤◌, ◌⊎◌, [], length, None, Some, false, true, IfErr, IfNone, IfOk, IfSome, MatchBool, OnErr, OnOk};
+ghost use Rattle.std.specs.Prelude.{◌≡◌, ◌≢◌, ◌+◌, ◌^◌, ◌<◌, ◌≤◌, ◌⊎◌, [], length, None, Some, false, true, IfErr, IfNone, IfOk, IfSome, IsSome, MatchBool, OnErr, OnOk};
 
+use crate::amount::{Amount, AtEnd};
 use crate::log_slot::{LogSlot, closed};
-use crate::naming::{Naming, OfClients, OfSlots};
+use crate::naming::Naming;
 use crate::positions::{PublicationPositions, ReadingPositions, counted_as, is_limit, note_if};
-use crate::totals::Counts;
 use driver_core::{Address, View};
 use driver_steps::{Answer, Asks, Offered, OpenLog, PacketRequest, Told};
 use frame_codec::Packet;
@@ -25,10 +25,9 @@ use receiver_reports::Reports;
 use std::alloc::{AllocError, Global};
 use std::marker::Model;
 use std::mem;
-use std::sync::ledger::Share;
 
-/// A slot for the log of a publication, with its share of the ledger of what logs took: the messages of the log that is open
-/// and those of the logs that were closed in it.
+/// A slot for the log of a publication, with what its logs may still take: 2^55 messages, but for those of the log that is open
+/// and of the logs that were closed in it.
 ///
 /// Contracts see the log as [`LogSlot`] shows it, and the numbers as a `SlotCount`.
 #[derive(Drop)]
@@ -36,11 +35,11 @@ pub struct Slot<N: Naming> {
     kept: LogSlot<N>,
     /// How many messages the logs took that were closed here.
     closed: u64,
-    /// Whether all messages were counted: once the total is at its greatest value no more are.
+    /// Whether all messages were counted.
     exact: bool,
-    /// Whether the driver has ended, and the share was taken out: no log is open then, nor opens any more.
+    /// Whether the driver has ended, and what was left was taken out: no log is open then, nor opens any more.
     settled: bool,
-    share: Share<OfSlots<N>>,
+    left: Amount<N>,
     /// What the receivers of the log reported that is or was there last.
     reports: Reports,
 }
@@ -48,16 +47,15 @@ pub struct Slot<N: Naming> {
 impl<N: Naming> Model for Slot<N> {
     ghost use Rattle.log_slots.specs.Counting.{SlotCount};
     ghost use Rattle.log_slots.specs.Slots.{messages_in};
-    ghost use Rattle.std.specs.Prelude.{◌≡◌, ◌+◌, ◌<◌, ◌^◌, true, false, None};
+    ghost use Rattle.std.specs.Prelude.{◌≡◌, ◌+◌, ◌^◌, true, false, None};
 
     ghost Value = { SlotCount };
 
-    ghost view = { λ slot. record { kept = slot.kept; closed = slot.closed; counted = slot.share.amount; exact = slot.exact; settled = slot.settled; reports = slot.reports } };
+    ghost view = { λ slot. record { kept = slot.kept; closed = slot.closed; left = slot.left.number; exact = slot.exact; settled = slot.settled; reports = slot.reports } };
 
-    ghost invariant = { λ slot. (slot.exact ≡ true → slot.share.amount ≡ messages_in slot.kept.log + slot.closed)
-        × (slot.settled ≡ false → slot.share.parts ≡ 1)
-        × (slot.settled ≡ true → slot.kept.log ≡ None)
-        × (slot.share.amount < 2 ^ 64) };
+    ghost invariant = { λ slot. (slot.exact ≡ true → slot.left.number + (messages_in slot.kept.log + slot.closed) ≡ 2 ^ 55)
+        × (slot.settled ≡ false → slot.left.parts ≡ 1)
+        × (slot.settled ≡ true → slot.kept.log ≡ None) };
 }
 
 /// Whether the answer says that a log took a message.
@@ -69,10 +67,10 @@ fn is_taken(answer: &Answer) -> bool
 
 impl<N: Naming> Slot<N> {
     /// A slot in which no log was opened yet.
-    pub fn new(share: Share<OfSlots<N>>) -> Slot<N>
-        requires { (share.parts ≡ 1) × (share.amount ≡ 0) }
+    pub fn new(left: Amount<N>) -> Slot<N>
+        requires { left ≡ record { parts = 1; number = 2 ^ 55 } }
         ensures kept { (result.kept.source ≡ 0) × (result.kept.log ≡ None) }
-        ensures counted { (result.closed ≡ 0) × (result.counted ≡ 0) }
+        ensures counted { (result.closed ≡ 0) × (result.left ≡ 2 ^ 55) }
         ensures begins { (result.exact ≡ true) × (result.settled ≡ false) × (result.reports ≡ []) }
     {
         Slot {
@@ -80,13 +78,13 @@ impl<N: Naming> Slot<N> {
             closed: 0,
             exact: true,
             settled: false,
-            share,
+            left,
             reports: Reports::new(),
         }
     }
 
-    /// What holds whenever the lock is free: what [`LogSlot::holds`] says, and that the share counts the messages of the log
-    /// that is open and of those that were closed here, while all were counted.
+    /// What holds whenever the lock is free: what [`LogSlot::holds`] says, and that what is left, the messages of the log that is
+    /// open, and those of the logs that were closed here are 2^55, while all were counted.
     pub fn holds(&self)
         ensures own { IsSlot N.home self.now.kept.source self.now.kept.session self.now.kept.stream self.now.kept.log }
         ensures whole { IfSome self.now.kept.log (λ held. HasWhole held.log) }
@@ -97,12 +95,13 @@ impl<N: Naming> Slot<N> {
         self.kept.holds();
     }
 
-    /// A client offers a message, as [`LogSlot::offer`] says. A message that the log took is counted, by the client's share
-    /// and by the slot's, unless the total is at its greatest value.
-    pub fn offer<V: View, A: Asks, K: Counts<N>>(
+    /// A client offers a message, as [`LogSlot::offer`] says. One that the log took goes from what the slot has left to what the
+    /// client counts. Where the slot has none left, or the client's number is at its greatest value, it is not counted, and
+    /// `ended` has that from then on.
+    pub fn offer<V: View, A: Asks>(
         &mut self,
-        counter: &mut K,
-        mine: &mut Share<OfClients<N>>,
+        mine: &mut Amount<N>,
+        ended: &mut Option<AtEnd<N>>,
         view: &V,
         asker: &mut A,
         now: u64,
@@ -115,9 +114,10 @@ impl<N: Naming> Slot<N> {
         ensures moved { Moves (offer_move (V.shows view.now) now client registration message.now) (OfferedAs Closed) self.old.kept.log self.new.kept.log result.answer }
         ensures decides { DecidesIn (offer_decision (V.shows view.now) client registration) self.old.kept.log result.decision }
         ensures parts { mine.new.parts ≡ mine.old.parts }
-        ensures counted { Adds (K.is_full counter.new) (taken_by result.answer) mine.old.amount mine.new.amount self.old.counted self.new.counted }
-        ensures exact { (self.new.exact ≡ self.old.exact) ⊎ K.is_full counter.new }
-        ensures same { self.new ≡ record self.old { kept = record self.old.kept { log = self.new.kept.log }; counted = self.new.counted; exact = self.new.exact } }
+        ensures counted { Passes (taken_by result.answer) mine.old.number mine.new.number self.old.left self.new.left }
+        ensures ended { (mine.new.number ≡ mine.old.number + taken_by result.answer) ⊎ IsSome ended.new }
+        ensures exact { (self.new.exact ≡ self.old.exact) ⊎ IsFull mine.old.number self.old.left }
+        ensures same { self.new ≡ record self.old { kept = record self.old.kept { log = self.new.kept.log }; left = self.new.left; exact = self.new.exact } }
         ensures right { A.is_right asker.new (V.shows view.now) }
     {
         if self.settled {
@@ -126,13 +126,15 @@ impl<N: Naming> Slot<N> {
         let Slot {
             kept,
             exact,
-            share,
+            left,
             ..
         } = self;
         let told = kept.offer(view, asker, now, client, registration, message);
         if is_taken(&told.answer) {
-            let counted = counter.one_more(mine, share);
-            *exact = *exact && counted;
+            if let Some(end) = left.pass_one(mine) {
+                *exact = false;
+                *ended = Some(end);
+            }
         }
         told
     }
@@ -274,10 +276,10 @@ impl<N: Naming> Slot<N> {
         Ok(told)
     }
 
-    /// The driver ends: the share is taken out, and the log, if one is open, is let go. A second time there is no share, and
+    /// The driver ends: what is left is taken out, and the log, if one is open, is let go. A second time there is none, and
     /// nothing is changed.
-    pub fn settle(&mut self) -> Option<Share<OfSlots<N>>>
-        ensures share { IfSome result (λ share. (self.old.settled ≡ false) × (share.parts ≡ 1) × (share.amount ≡ self.old.counted)) }
+    pub fn settle(&mut self) -> Option<Amount<N>>
+        ensures left_over { IfSome result (λ amount. (self.old.settled ≡ false) × (amount ≡ record { parts = 1; number = self.old.left })) }
         ensures none { IfNone result (self.old.settled ≡ true) }
         ensures left { self.new ≡ settled_of self.old }
     {
@@ -285,10 +287,11 @@ impl<N: Naming> Slot<N> {
             return None;
         }
         self.kept.take();
-        let empty = self.share.empty();
-        let share = mem::replace(&mut self.share, empty);
+        let empty = self.left.empty();
+        let left = mem::replace(&mut self.left, empty);
         self.closed = 0;
+        self.exact = false;
         self.settled = true;
-        Some(share)
+        Some(left)
     }
 }

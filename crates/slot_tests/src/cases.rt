@@ -28,16 +28,13 @@ fn goes<N: Naming + Send + Sync + 'static, R: Threads + Wait + Sync>(
     rt: &R,
     alloc: Global,
     arena: Arena,
-    clients: Blank,
-    slots: Blank,
+    messages: Blank,
     case: Case,
 ) -> bool
     requires home { arena.home ≡ N.home }
-    requires clients { (clients.name ≡ N.client_ledger) × (clients.parts ≡ N.client_parts) × (clients.parts ≡ 2) }
-    requires slots { (slots.name ≡ N.slot_ledger) × (slots.parts ≡ N.slot_parts) × (slots.parts ≡ 2) }
-    requires two { N.client_parts ≡ 2 }
+    requires messages { (messages.name ≡ N.ledger) × (messages.parts ≡ N.parts) × (messages.parts ≡ 4) }
 {
-    let Ok(parts) = make_parts::<N>(alloc, arena, clients, slots) else {
+    let Ok(parts) = make_parts::<N>(alloc, arena, messages) else {
         return false;
     };
     match case {
@@ -54,7 +51,7 @@ fn is_shown<R: Threads + Wait + Sync>(rt: &R, alloc: Global, case: Case) -> bool
     let Ok(arena) = Arena::new(alloc, 256) else {
         return false;
     };
-    goes::<Brand, R>(rt, alloc, arena, Blank::new(2), Blank::new(2), case)
+    goes::<Brand, R>(rt, alloc, arena, Blank::new(4), case)
 }
 
 #[test]

@@ -1,23 +1,23 @@
-// Clients that offer, each with its share.
+// Clients that offer, each with what was counted for it.
 ghost use Rattle.log_slots.specs.Counting.{taken_by};
-ghost use Rattle.std.specs.Prelude.{◌≡◌, true, IfSome, MatchBool};
+ghost use Rattle.std.specs.Prelude.{◌≡◌, ◌<◌, ◌^◌, true, IfSome, MatchBool};
 
 use crate::asking::Anew;
 use crate::registries::CLIENT;
 use driver_core::Registry;
 use driver_steps::{Answer, Offered, Told};
-use log_slots::{Late, Naming, OfClients, Slot, Totals};
-use std::sync::ledger::Share;
+use log_slots::{Amount, Naming, OfMessages, Slot};
+use std::sync::ledger::Total;
 use std::sync::{Mutex, Wait};
 
-/// A client's share, how many of its messages logs took, and whether the share counts just these.
+/// What was counted for a client, how many of its messages logs took, and whether just these were counted.
 #[derive(Drop)]
 pub(crate) struct Hand<N: Naming> {
-    pub(crate) share: Share<OfClients<N>>,
+    pub(crate) counted: Amount<N>,
     pub(crate) taken: u64,
     pub(crate) exact: bool,
-    pub ghost one_part: { share.parts ≡ 1 },
-    pub ghost counted: { exact ≡ true → share.amount ≡ taken },
+    pub ghost one_part: { counted.parts ≡ 1 },
+    pub ghost just_these: { exact ≡ true → counted.number ≡ taken },
 }
 
 // Whether the answer says that a log took a message.
@@ -36,11 +36,11 @@ fn taken_by(told: &Told) -> u64
 
 impl<N: Naming> Hand<N> {
     /// A client that has offered nothing yet.
-    pub(crate) fn new(share: Share<OfClients<N>>) -> Hand<N>
-        requires { (share.parts ≡ 1) × (share.amount ≡ 0) }
+    pub(crate) fn new(counted: Amount<N>) -> Hand<N>
+        requires { counted ≡ record { parts = 1; number = 0 } }
     {
         Hand {
-            share,
+            counted,
             taken: 0,
             exact: true,
         }
@@ -51,23 +51,18 @@ impl<N: Naming> Hand<N> {
         &mut self,
         rt: &R,
         slot: &Mutex<Slot<N>>,
-        totals: &Mutex<Totals<N>>,
         registry: &Registry,
         registration: u64,
     ) -> Answer {
         let Hand {
-            share,
+            counted,
             taken,
             exact,
         } = self;
-        let mut late = Late {
-            rt,
-            totals,
-            end: None,
-        };
+        let mut end = None;
         let told = slot.lock(rt).offer(
-            &mut late,
-            share,
+            counted,
+            &mut end,
             registry,
             &mut Anew,
             0,
@@ -76,7 +71,7 @@ impl<N: Naming> Hand<N> {
             b"abc",
         );
         match taken.checked_add(taken_by(&told)) {
-            Some(sum) if late.end.is_none() => *taken = sum,
+            Some(sum) if end.is_none() => *taken = sum,
             _ => *exact = false,
         }
         told.answer
@@ -87,31 +82,32 @@ impl<N: Naming> Hand<N> {
         self,
         rt: &R,
         slot: &Mutex<Slot<N>>,
-        totals: &Mutex<Totals<N>>,
         registry: &Registry,
         registration: u64,
         times: u64,
     ) -> Hand<N> {
         let mut hand = self;
         for _ in 0..times {
-            drop(hand.offers(rt, slot, totals, registry, registration));
+            drop(hand.offers(rt, slot, registry, registration));
         }
         hand
     }
 }
 
-/// Two shares together, and how many messages they count.
+/// What was counted for two clients together, and how many messages that is.
 pub(crate) fn together<N: Naming>(
     one: Hand<N>,
     other: Hand<N>,
-) -> Option<(Share<OfClients<N>>, u64)>
-    ensures { IfSome result (λ both. (both.0.parts ≡ 2) × (both.0.amount ≡ both.1)) }
+    total: &Total<OfMessages<N>>,
+) -> Option<(Amount<N>, u64)>
+    requires { total.now.amount < 2 ^ 64 }
+    ensures { IfSome result (λ both. both.0 ≡ record { parts = 2; number = both.1 }) }
 {
     if !one.exact || !other.exact {
         return None;
     }
     let taken = one.taken.checked_add(other.taken)?;
-    let mut share = one.share;
-    share.merge(other.share);
-    Some((share, taken))
+    let mut counted = one.counted;
+    counted.merge(other.counted, total);
+    Some((counted, taken))
 }

@@ -12,13 +12,12 @@ use std::thread::{Threads, join};
 // How often each thread offers: all messages fit before a reader that stands at the start.
 const TIMES: u64 = 200;
 
-/// How many messages were counted by the totals, and how many the two threads saw taken.
+/// How many messages the logs took, and how many the two threads saw taken.
 pub(crate) fn two_threads<N: Naming + Send + Sync + 'static, R: Threads + Wait + Sync>(
     rt: &R,
     alloc: Global,
     parts: Parts<N>,
 ) -> Option<(u64, u64)>
-    requires { N.client_parts ≡ 2 }
     ensures { IfSome result (λ counts. counts.0 ≡ counts.1) }
 {
     let mut parts = parts;
@@ -28,11 +27,10 @@ pub(crate) fn two_threads<N: Naming + Send + Sync + 'static, R: Threads + Wait +
     let Parts {
         registry,
         region,
-        totals,
+        total,
         first,
         second,
         slots,
-        rest,
     } = parts;
     drop(region);
     let Some(slot) = slots.first() else {
@@ -40,8 +38,8 @@ pub(crate) fn two_threads<N: Naming + Send + Sync + 'static, R: Threads + Wait +
     };
     let (one, other) = join(
         rt,
-        || first.offers_all(rt, slot, &totals, &registry, FIRST.source, TIMES),
-        || second.offers_all(rt, slot, &totals, &registry, FIRST.source, TIMES),
+        || first.offers_all(rt, slot, &registry, FIRST.source, TIMES),
+        || second.offers_all(rt, slot, &registry, FIRST.source, TIMES),
     );
-    ended(rt, &totals, slots.as_slice(), (one, other), rest)
+    ended(rt, &total, slots.as_slice(), (one, other))
 }

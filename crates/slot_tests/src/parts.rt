@@ -1,5 +1,5 @@
-// What a driver has, as far as logs and ledgers go.
-ghost use Rattle.std.specs.Prelude.{◌≡◌};
+// What a driver has, as far as logs and the ledger of messages go.
+ghost use Rattle.std.specs.Prelude.{◌≡◌, ◌*◌, ◌^◌, OnOk};
 
 use crate::hands::Hand;
 use crate::opening::{Fresh, opened};
@@ -7,9 +7,9 @@ use crate::registries::{Numbers, filled};
 use driver_core::Registry;
 use driver_steps::Answer;
 use log_arena::Arena;
-use log_slots::{Naming, OfClients, OfSlots, Region, Slot, Totals};
+use log_slots::{Amount, Naming, OfMessages, ROOM, Region, Slot};
 use std::alloc::{AllocError, Global};
-use std::sync::ledger::{Blank, Share};
+use std::sync::ledger::{Blank, Total};
 use std::sync::{Mutex, Wait};
 
 /// The parts of a driver with two clients and two slots.
@@ -17,63 +17,56 @@ use std::sync::{Mutex, Wait};
 pub(crate) struct Parts<N: Naming> {
     pub(crate) registry: Registry,
     pub(crate) region: Region<N>,
-    pub(crate) totals: Mutex<Totals<N>>,
+    pub(crate) total: Total<OfMessages<N>>,
     pub(crate) first: Hand<N>,
     pub(crate) second: Hand<N>,
     pub(crate) slots: Vec<Mutex<Slot<N>>>,
-    /// What is left of the ledger of slots: no part.
-    pub(crate) rest: Share<OfSlots<N>>,
+    pub ghost total_is: { (total.amount ≡ 2 * 2 ^ 55) × (total.parts ≡ 4) },
 }
 
 // Two slots.
 fn two_slots<N: Naming>(
     alloc: Global,
-    share: Share<OfSlots<N>>,
-) -> Result<(Vec<Mutex<Slot<N>>>, Share<OfSlots<N>>), AllocError>
-    requires { (share.parts ≡ 2) × (share.amount ≡ 0) }
+    amount: &mut Amount<N>,
+) -> Result<Vec<Mutex<Slot<N>>>, AllocError>
+    requires { amount.old ≡ record { parts = 4; number = 2 * 2 ^ 55 } }
+    ensures { OnOk result (amount.new ≡ record { parts = 2; number = 0 }) }
 {
-    let mut rest = share;
     let mut slots = Vec::new(alloc);
-    slots.push(Mutex::new(Slot::new(rest.split_off(1, 0))))?;
-    let other = rest.split_off(1, 0);
-    slots.push(Mutex::new(Slot::new(other)))?;
-    Ok((slots, rest))
+    slots.push(Mutex::new(Slot::new(amount.split(ROOM))))?;
+    slots.push(Mutex::new(Slot::new(amount.split(ROOM))))?;
+    Ok(slots)
 }
 
 // Two clients.
-fn two_hands<N: Naming>(share: Share<OfClients<N>>) -> (Hand<N>, Hand<N>)
-    requires { (share.parts ≡ 2) × (share.amount ≡ 0) }
+fn two_hands<N: Naming>(amount: Amount<N>) -> (Hand<N>, Hand<N>)
+    requires { amount ≡ record { parts = 2; number = 0 } }
 {
-    let mut share = share;
-    let other = share.split_off(1, 0);
-    (Hand::new(share), Hand::new(other))
+    let mut amount = amount;
+    let other = amount.split(0);
+    (Hand::new(amount), Hand::new(other))
 }
 
 /// The parts that `N` names, in which nothing was taken yet.
 pub(crate) fn make_parts<N: Naming>(
     alloc: Global,
     arena: Arena,
-    clients: Blank,
-    slots: Blank,
+    messages: Blank,
 ) -> Result<Parts<N>, AllocError>
     requires home { arena.home ≡ N.home }
-    requires clients { (clients.name ≡ N.client_ledger) × (clients.parts ≡ N.client_parts) × (clients.parts ≡ 2) }
-    requires slots { (slots.name ≡ N.slot_ledger) × (slots.parts ≡ N.slot_parts) × (slots.parts ≡ 2) }
+    requires messages { (messages.name ≡ N.ledger) × (messages.parts ≡ N.parts) × (messages.parts ≡ 4) }
 {
     let registry = filled(alloc)?;
-    let (client_book, clients) = clients.open::<OfClients<N>>();
-    let (slot_book, slots) = slots.open::<OfSlots<N>>();
-    let totals = Totals::new(client_book, slot_book);
-    let (slots, rest) = two_slots(alloc, slots)?;
-    let (first, second) = two_hands(clients);
+    let (total, mut amount) = Amount::open(messages, 2);
+    let slots = two_slots(alloc, &mut amount)?;
+    let (first, second) = two_hands(amount);
     Ok(Parts {
         registry,
         region: Region::new(arena),
-        totals: Mutex::new(totals),
+        total,
         first,
         second,
         slots,
-        rest,
     })
 }
 
@@ -103,9 +96,6 @@ impl<N: Naming> Parts<N> {
     /// What is answered to a message that the first client offers, in the first slot, by the publication's registration.
     pub(crate) fn offers<R: Wait>(&mut self, rt: &R, numbers: Numbers) -> Option<Answer> {
         let slot = self.slots.first()?;
-        Some(
-            self.first
-                .offers(rt, slot, &self.totals, &self.registry, numbers.source),
-        )
+        Some(self.first.offers(rt, slot, &self.registry, numbers.source))
     }
 }

@@ -1,6 +1,4 @@
-// The slots give their shares as a driver ends.
-ghost use Rattle.std.specs.Prelude.{◌≡◌};
-
+// The slots give what they have left as a driver ends.
 use crate::ending::ended;
 use crate::opening::{Fresh, opened};
 use crate::parts::Parts;
@@ -9,7 +7,7 @@ use log_slots::{Naming, Slot};
 use std::alloc::Global;
 use std::sync::Wait;
 
-// Whether the slot gives its share once, and no log opens in it then.
+// Whether the slot gives that once, and no log opens in it then.
 fn is_settled<N: Naming>(slot: &mut Slot<N>, fresh: Fresh<N>) -> bool {
     let Fresh {
         log,
@@ -22,7 +20,7 @@ fn is_settled<N: Naming>(slot: &mut Slot<N>, fresh: Fresh<N>) -> bool {
     gave && slot.settle().is_none() && slot.open(log, session, stream).is_err()
 }
 
-// Whether the last slot's share is taken out.
+// Whether that of the last slot is taken out.
 fn is_missing<N: Naming, R: Wait>(rt: &R, alloc: Global, parts: &mut Parts<N>) -> bool {
     let Some(fresh) = opened(alloc, &mut parts.region, &parts.registry, FIRST.source) else {
         return false;
@@ -33,15 +31,13 @@ fn is_missing<N: Naming, R: Wait>(rt: &R, alloc: Global, parts: &mut Parts<N>) -
     }
 }
 
-/// Whether the sum of all shares is answered, or none where one is missing.
+/// Whether it is answered how many messages were taken, or nothing where a slot's amount is missing.
 pub(crate) fn shares_come_together<N: Naming, R: Wait>(
     rt: &R,
     alloc: Global,
     parts: Parts<N>,
     missing: bool,
-) -> bool
-    requires { N.client_parts ≡ 2 }
-{
+) -> bool {
     let mut parts = parts;
     if missing && !is_missing(rt, alloc, &mut parts) {
         return false;
@@ -49,16 +45,14 @@ pub(crate) fn shares_come_together<N: Naming, R: Wait>(
     let Parts {
         registry,
         region,
-        totals,
+        total,
         first,
         second,
         slots,
-        rest,
-        ..
     } = parts;
     drop(registry);
     drop(region);
-    let sum = ended(rt, &totals, slots.as_slice(), (first, second), rest);
+    let sum = ended(rt, &total, slots.as_slice(), (first, second));
     if missing {
         sum.is_none()
     } else {
