@@ -180,7 +180,7 @@ fn started<N: DriverNaming + Send + Sync + 'static, R: Machine, F: Disk>(
     doors: &[Door],
     work: Work,
 ) -> Result<(), Fault>
-    requires { AreNamed N.home N.client_ledger N.client_parts N.slot_ledger N.slot_parts N.book parts }
+    requires { AreNamed N.home N.ledger N.parts N.client_ledger N.client_parts N.book parts }
 {
     let Work {
         serving,

@@ -1,10 +1,10 @@
 // What the agents of a driver have in common: the slots of its logs, where its owner asks, and a gate that is open.
-ghost use Rattle.std.specs.Prelude.{◌≡◌};
+ghost use Rattle.std.specs.Prelude.{◌≡◌, ◌*◌, ◌^◌};
 
-use log_slots::{LogSlot, Naming, OfSlots, Slot};
+use log_slots::{Amount, LogSlot, Naming, ROOM, Slot};
 use media_agents::{Agent, Desk, DriverNaming, Gate, Journal, Slots, Turn};
 use std::alloc::{AllocError, Global};
-use std::sync::ledger::{Blank, Share};
+use std::sync::ledger::Blank;
 use std::sync::{Arc, Mutex};
 
 // How many logs of publications there are at most, and how many images.
@@ -26,16 +26,16 @@ pub fn shared<T: Drop>(alloc: Global, value: T) -> Result<Arc<T>, AllocError> {
     }
 }
 
-// The slots for the logs of publications, each with one part of the ledger.
+// The slots for the logs of publications, each with its amount of the ledger.
 fn publication_slots<N: Naming>(
     alloc: Global,
-    share: &mut Share<OfSlots<N>>,
+    amount: &mut Amount<N>,
 ) -> Result<Vec<Mutex<Slot<N>>>, AllocError>
-    requires { (share.old.parts ≡ 3) × (share.old.amount ≡ 0) }
+    requires { amount.old ≡ record { parts = 4; number = 3 * 2 ^ 55 } }
 {
     let mut slots = Vec::with_capacity(alloc, SLOTS as usize)?;
     for _made in 0..SLOTS {
-        slots.push(Mutex::new(Slot::new(share.split_off(1, 0))))?;
+        slots.push(Mutex::new(Slot::new(amount.split(ROOM))))?;
     }
     Ok(slots)
 }
@@ -51,12 +51,12 @@ fn image_slots<N: Naming>(alloc: Global) -> Result<Vec<Mutex<LogSlot<N>>>, Alloc
 
 // All slots, of which each is empty.
 fn make_slots<N: Naming>(alloc: Global, parts: Blank) -> Result<Slots<N>, AllocError>
-    requires names { (parts.name ≡ N.slot_ledger) × (parts.parts ≡ N.slot_parts) }
-    requires three { parts.parts ≡ 3 }
+    requires names { (parts.name ≡ N.ledger) × (parts.parts ≡ N.parts) }
+    requires four { parts.parts ≡ 4 }
 {
-    let (_book, mut share) = parts.open::<OfSlots<N>>();
+    let (_total, mut amount) = Amount::open(parts, SLOTS as u32);
     Ok(Slots {
-        publications: publication_slots(alloc, &mut share)?,
+        publications: publication_slots(alloc, &mut amount)?,
         images: image_slots(alloc)?,
         journal: Mutex::new(Journal::new(alloc)?),
     })
@@ -73,8 +73,8 @@ pub struct Common<N: DriverNaming> {
 impl<N: DriverNaming> Common<N> {
     // Slots for three logs of each kind.
     pub fn new(alloc: Global, parts: Blank) -> Result<Common<N>, AllocError>
-        requires names { (parts.name ≡ N.slot_ledger) × (parts.parts ≡ N.slot_parts) }
-        requires three { parts.parts ≡ 3 }
+        requires names { (parts.name ≡ N.ledger) × (parts.parts ≡ N.parts) }
+        requires four { parts.parts ≡ 4 }
     {
         let slots = make_slots(alloc, parts)?;
         Ok(Common {

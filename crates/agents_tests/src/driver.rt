@@ -72,17 +72,17 @@ fn make_hand<N: DriverNaming>(
 impl<N: DriverNaming> Outfit<N> {
     fn new(alloc: Global, pieces: Pieces) -> Result<Outfit<N>, AllocError>
         requires home { pieces.arena.home ≡ N.home }
-        requires names { (pieces.slots.name ≡ N.slot_ledger) × (pieces.slots.parts ≡ N.slot_parts) }
-        requires three { pieces.slots.parts ≡ 3 }
+        requires names { (pieces.messages.name ≡ N.ledger) × (pieces.messages.parts ≡ N.parts) }
+        requires four { pieces.messages.parts ≡ 4 }
     {
         let Pieces {
             arena,
             passes,
-            slots,
+            messages,
             local,
         } = pieces;
         let store = Store::new(alloc, arena)?;
-        let common = Common::new(alloc, slots)?;
+        let common = Common::new(alloc, messages)?;
         let slots = common.slots()?;
         let notes = Steps::new(common.slots()?);
         let (taker, hand) = make_hand(alloc, &common, local, passes)?;
@@ -139,8 +139,8 @@ impl<N: DriverNaming> Driver<N> {
         requires book { parts.publisher.book ≡ N.book }
         requires sound { IsSound (registry_of parts.publisher) }
         requires home { parts.pieces.arena.home ≡ N.home }
-        requires names { (parts.pieces.slots.name ≡ N.slot_ledger) × (parts.pieces.slots.parts ≡ N.slot_parts) }
-        requires three { parts.pieces.slots.parts ≡ 3 }
+        requires names { (parts.pieces.messages.name ≡ N.ledger) × (parts.pieces.messages.parts ≡ N.parts) }
+        requires four { parts.pieces.messages.parts ≡ 4 }
     {
         let Parts { publisher, pieces } = parts;
         match Outfit::new(alloc, pieces) {

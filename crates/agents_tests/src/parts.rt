@@ -16,8 +16,8 @@ use std::sync::ledger::Blank;
 pub struct Pieces {
     pub arena: Arena,
     pub passes: Vec<Pass>,
-    // The ledger of what logs took, before it is opened: a part for each of three slots.
-    pub slots: Blank,
+    // The ledger of messages, before it is opened: a part for each of three slots, and one more.
+    pub messages: Blank,
     // From where datagrams are sent.
     pub local: Address,
 }
@@ -85,7 +85,7 @@ impl Parts {
     pub fn make<R: Wait>(rt: &R, alloc: Global, settings: Settings) -> Option<Parts>
         requires { AreSettings settings }
         ensures sound { IfSome result (λ parts. IsSound (registry_of parts.publisher)) }
-        ensures three { IfSome result (λ parts. parts.pieces.slots.parts ≡ 3) }
+        ensures four { IfSome result (λ parts. parts.pieces.messages.parts ≡ 4) }
     {
         let arena = Arena::new(alloc, settings.arena_pages as usize).ok()?;
         let (publisher, passes) = published(rt, alloc, settings)?;
@@ -94,7 +94,7 @@ impl Parts {
             pieces: Pieces {
                 arena,
                 passes,
-                slots: Blank::new(3),
+                messages: Blank::new(4),
                 local: settings.send_address,
             },
         })

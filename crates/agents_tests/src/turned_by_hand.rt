@@ -157,8 +157,8 @@ fn seen_of<N: DriverNaming, R: Wait>(rt: &R, alloc: Global, parts: Parts) -> Opt
     requires book { parts.publisher.book ≡ N.book }
     requires sound { IsSound (registry_of parts.publisher) }
     requires home { parts.pieces.arena.home ≡ N.home }
-    requires names { (parts.pieces.slots.name ≡ N.slot_ledger) × (parts.pieces.slots.parts ≡ N.slot_parts) }
-    requires three { parts.pieces.slots.parts ≡ 3 }
+    requires names { (parts.pieces.messages.name ≡ N.ledger) × (parts.pieces.messages.parts ≡ N.parts) }
+    requires four { parts.pieces.messages.parts ≡ 4 }
 {
     let driver: Driver<N> = Driver::start(rt, alloc, parts)?;
     let wire = Watched::new(Network::new(alloc));

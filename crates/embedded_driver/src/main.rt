@@ -26,7 +26,7 @@ fn serve<N: DriverNaming + Send + Sync + 'static, R: Machine, W: Wire + Drop + S
     parts: Parts,
     wire: W,
 ) -> Result<u64, &'static str>
-    requires { AreNamed N.home N.client_ledger N.client_parts N.slot_ledger N.slot_parts N.book parts }
+    requires { AreNamed N.home N.ledger N.parts N.client_ledger N.client_parts N.book parts }
 {
     let started: Result<Driver<N, R, MachineClock<R>>, _> = Driver::start(
         rt,

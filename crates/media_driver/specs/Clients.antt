@@ -19,8 +19,8 @@ use Rattle.published_registry.specs.Histories.{History, IsContinuedBy, Known}
 
 -- the id by which the driver knows it; the correlation id of its last command; the greatest moment of its commands and offers;
 -- the history that it saw or learned of; what it pushed; the mails that it took out of its ring, and those that it saw there;
--- how many of its messages were counted, and whether the driver's total was at its greatest value when one was not; and what is
--- kept of what was decided for it
+-- how many of its messages were counted, and whether one was not, since no more could be; and what is kept of what was decided for
+-- it
 pub record Attached : Type 0 where
   pub number : ℕ
   pub correlation : ℕ

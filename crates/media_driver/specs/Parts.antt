@@ -11,20 +11,20 @@ use Rattle.published_registry.specs.Histories.{History}
 -- the region of its logs, its ledgers and into how many parts they are cut, its history, and the registry that was opened
 pub record PartsState : Type 0 where
   pub home : Home
+  pub ledger : ℕ
+  pub parts : ℕ
   pub client_ledger : ℕ
   pub client_parts : ℕ
-  pub slot_ledger : ℕ
-  pub slot_parts : ℕ
   pub book : Book
   pub opening : State
 
 -- the type names these parts
-pub record AreNamed (home : Home) (client_ledger client_parts slot_ledger slot_parts : ℕ) (book : Book) (parts : PartsState) : Type 0 where
+pub record AreNamed (home : Home) (ledger count client_ledger client_parts : ℕ) (book : Book) (parts : PartsState) : Type 0 where
   pub home_is : parts.home ≡ home
+  pub ledger_is : parts.ledger ≡ ledger
+  pub parts_are : parts.parts ≡ count
   pub client_ledger_is : parts.client_ledger ≡ client_ledger
   pub client_parts_are : parts.client_parts ≡ client_parts
-  pub slot_ledger_is : parts.slot_ledger ≡ slot_ledger
-  pub slot_parts_are : parts.slot_parts ≡ slot_parts
   pub book_is : parts.book ≡ book
 
 -- the passes are of that history, and nothing was sent by the senders

@@ -75,7 +75,7 @@ abbrev pub MayLack : Home → (WholeLog → Move) → PollFault → Type 0
 MayLack home move polls.NoMemory = IsGiving home move
 MayLack home move fault = Unit {0}
 
--- one more message is counted, or the driver's total is at its greatest value
+-- one more message is counted, or no more could be
 abbrev pub CountsOne : Attached → Attached → Type 0
 CountsOne old new = (new.counted ≡ old.counted + 1) ⊎ ((new.counted ≡ old.counted) × (new.ended ≡ true))
 

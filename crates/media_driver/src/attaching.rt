@@ -14,18 +14,16 @@ use crate::seat::Seat;
 use crate::seats::FreeSeat;
 use audit_ring::AuditOf;
 use driver_core::{Event, Response};
-use log_slots::Totals;
 use media_agents::{Clock, Dated, DriverNaming, Question, Slots};
 use published_registry::Receipt;
 use std::alloc::AllocError;
-use std::sync::{Arc, Mutex, Wait};
+use std::sync::{Arc, Wait};
 use std::thread::Threads;
 
 /// What a client shares with its driver, and the memory for its audit.
 #[derive(Drop)]
 struct Handles<N: DriverNaming> {
     slots: Arc<Slots<N>>,
-    totals: Arc<Mutex<Totals<N>>>,
     /// Where nothing was decided yet.
     audit: AuditOf<Dated>,
 }
@@ -36,7 +34,6 @@ impl<N: DriverNaming, R: Threads + Wait, C: Clock + Copy> Driver<N, R, C> {
     {
         Ok(Handles {
             slots: Arc::try_clone(&self.kept.common.slots)?,
-            totals: Arc::try_clone(&self.kept.ledgers.totals)?,
             audit: AuditOf::new(self.alloc)?,
         })
     }
@@ -52,13 +49,10 @@ impl<N: DriverNaming, R: Threads + Wait, C: Clock + Copy> Driver<N, R, C> {
         ensures out { self.new ≡ record self.old { out = self.old.out + 1 } }
     {
         let FreeSeat { place, seat } = self.kept.seats.take();
-        let share = self.kept.ledgers.clients.split_off(1, 0);
+        let counted = self.kept.ledger.counted.split(0);
+        let part = self.kept.ledger.clients.split_off(1, 0);
         self.out += 1;
-        let Handles {
-            slots,
-            totals,
-            audit,
-        } = handles;
+        let Handles { slots, audit } = handles;
         let Seat {
             pass,
             queue,
@@ -74,11 +68,11 @@ impl<N: DriverNaming, R: Threads + Wait, C: Clock + Copy> Driver<N, R, C> {
             queue,
             mails,
             cache,
-            share,
+            counted,
+            part,
             ended: None,
             audit,
             slots,
-            totals,
             clock: self.clock,
             alloc: self.alloc,
             offered: None,
@@ -139,10 +133,11 @@ impl<N: DriverNaming, R: Threads + Wait, C: Clock + Copy> Driver<N, R, C> {
             queue,
             mails,
             cache,
-            share,
+            counted,
+            part,
             ..
         } = client;
-        self.kept.ledgers.clients.merge(share);
+        self.kept.ledger.take_back(counted, part);
         self.out -= 1;
         let Some(pass) = pass else { unreachable!() };
         let seat = Seat {

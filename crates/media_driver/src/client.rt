@@ -6,14 +6,14 @@ ghost use Rattle.std.specs.Prelude.{◌≡◌, ◌≤◌};
 use crate::offering::Found;
 use audit_ring::AuditOf;
 use decision_cache::Cache;
-use log_slots::{AtEnd, OfClients, Totals};
+use log_slots::{Amount, AtEnd, OfClients};
 use media_agents::{Clock, Dated, DriverNaming, EventSender, LogAt, Mail, Slots};
 use published_registry::{Pass, Receipt, caches_stay_right_of_later_looks};
 use rtrb::Consumer;
 use std::alloc::Global;
 use std::marker::Model;
+use std::sync::Arc;
 use std::sync::ledger::Share;
-use std::sync::{Arc, Mutex};
 
 /// A client of a driver. It acts for the principal whom its driver's owner named.
 #[derive(Drop)]
@@ -31,14 +31,15 @@ pub struct Client<N: DriverNaming, C: Clock> {
     pub(crate) mails: Consumer<Mail<N>, Global>,
     /// Verdicts that the policy gave lately.
     pub(crate) cache: Cache,
-    /// Its share of the ledger of all messages.
-    pub(crate) share: Share<OfClients<N>>,
-    /// That the driver's total was at its greatest value when a message was not counted; none before.
+    /// How many of its messages were counted: what it has of the ledger of all messages.
+    pub(crate) counted: Amount<N>,
+    /// That it is out.
+    pub(crate) part: Share<OfClients<N>>,
+    /// That no more could be counted when a message was not; none before.
     pub(crate) ended: Option<AtEnd<N>>,
     /// What was decided for it.
     pub(crate) audit: AuditOf<Dated>,
     pub(crate) slots: Arc<Slots<N>>,
-    pub(crate) totals: Arc<Mutex<Totals<N>>>,
     pub(crate) clock: C,
     pub(crate) alloc: Global,
     /// Where the log of the last offer is, by its registration.
@@ -66,13 +67,13 @@ impl<N: DriverNaming, C: Clock> Model for Client<N, C> {
       queue = client.queue;
       taken = received client.mails;
       waiting = known_items client.mails;
-      counted = client.share.amount;
+      counted = client.counted.number;
       ended = is_some client.ended;
       audited = client.audit;
     } };
 
     ghost invariant = { λ client. IsSome client.pass × ((history_in client.pass).book ≡ N.book)
-        × AreCached (registry_of (history_in client.pass)) client.cache × (client.share.parts ≡ 1) };
+        × AreCached (registry_of (history_in client.pass)) client.cache × (client.counted.parts ≡ 1) × (client.part.parts ≡ 1) };
 }
 
 impl<N: DriverNaming, C: Clock> Client<N, C> {

@@ -3,7 +3,7 @@
 ghost use Rattle.media_driver.specs.Parts.{AreNamed};
 ghost use Rattle.published_registry.specs.Histories.{registry_of};
 ghost use Rattle.driver_core.specs.Soundness.{IsSound};
-ghost use Rattle.std.specs.Prelude.{◌≡◌, [], IfOk};
+ghost use Rattle.std.specs.Prelude.{◌≡◌, ◌*◌, ◌^◌, [], IfOk};
 
 use crate::clock::MachineClock;
 use crate::faults::StartFault;
@@ -35,13 +35,15 @@ pub struct Driver<N: DriverNaming, R: Threads + Wait, C: Clock> {
 
 impl<N: DriverNaming, R: Threads + Wait, C: Clock> Model for Driver<N, R, C> {
     ghost use Rattle.media_driver.specs.Parts.{DriverState};
-    ghost use Rattle.std.specs.Prelude.{◌≡◌, ◌+◌};
+    ghost use Rattle.std.specs.Prelude.{◌≡◌, ◌+◌, ◌*◌, ◌^◌};
 
     ghost Value = { DriverState };
 
-    ghost view = { λ driver. record { out = driver.out; counted = driver.kept.ledgers.clients.amount; queue = driver.kept.queue; elicited = driver.kept.elicitations } };
+    ghost view = { λ driver. record { out = driver.out; counted = driver.kept.ledger.counted.number; queue = driver.kept.queue; elicited = driver.kept.elicitations } };
 
-    ghost invariant = { λ driver. (driver.kept.ledgers.clients.parts + driver.out ≡ 65) × (N.client_parts ≡ 65) × (driver.kept.seats + driver.out ≡ 64) };
+    ghost invariant = { λ driver. (driver.kept.ledger.clients.parts + driver.out ≡ 65) × (N.client_parts ≡ 65) × (driver.kept.seats + driver.out ≡ 64)
+        × (driver.kept.ledger.counted.parts + driver.out ≡ 65)
+        × (driver.kept.ledger.total.amount ≡ 256 * 2 ^ 55) × (driver.kept.ledger.total.parts ≡ 321) };
 }
 
 /// The conductor, before its first turn.
@@ -104,7 +106,7 @@ impl<
         parts: Parts,
         wire: W,
     ) -> Result<Driver<N, R, MachineClock<R>>, StartFault>
-        requires { AreNamed N.home N.client_ledger N.client_parts N.slot_ledger N.slot_parts N.book parts }
+        requires { AreNamed N.home N.ledger N.parts N.client_ledger N.client_parts N.book parts }
         ensures { IfOk result (λ driver. (driver.out ≡ 0) × (driver.counted ≡ 0) × (driver.queue.sent ≡ []) × (driver.elicited ≡ [])) }
     {
         match MachineClock::start(rt) {
@@ -134,7 +136,7 @@ impl<
         clock: C,
         gate: G,
     ) -> Result<Driver<N, R, C>, StartFault>
-        requires { AreNamed N.home N.client_ledger N.client_parts N.slot_ledger N.slot_parts N.book parts }
+        requires { AreNamed N.home N.ledger N.parts N.client_ledger N.client_parts N.book parts }
         ensures { IfOk result (λ driver. (driver.out ≡ 0) × (driver.counted ≡ 0) × (driver.queue.sent ≡ []) × (driver.elicited ≡ [])) }
     {
         let Parts { publisher, pieces } = parts;
@@ -158,7 +160,9 @@ impl<
         requires ours { publisher.book ≡ N.book }
         requires sound { IsSound (registry_of publisher) }
         requires home { prepared.desks.arena.home ≡ N.home }
-        requires shares { (N.client_parts ≡ 65) × (prepared.kept.ledgers.clients.parts ≡ 65) × (prepared.kept.ledgers.clients.amount ≡ 0) }
+        requires counted { prepared.kept.ledger.counted ≡ record { parts = 65; number = 0 } }
+        requires clients { (N.client_parts ≡ 65) × (prepared.kept.ledger.clients.parts ≡ 65) }
+        requires total { (prepared.kept.ledger.total.amount ≡ 256 * 2 ^ 55) × (prepared.kept.ledger.total.parts ≡ 321) }
         requires queue { prepared.kept.queue.sent ≡ [] }
         requires elicited { prepared.kept.elicitations ≡ [] }
         requires seats { prepared.kept.seats ≡ 64 }

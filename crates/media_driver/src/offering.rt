@@ -20,10 +20,9 @@ use channel_uri::Media;
 use decision_cache::Cache;
 use driver_core::View;
 use driver_steps::{Answer, Offered};
-use log_slots::{AtEnd, Late, OfClients, Slot, Totals, lock_soon};
+use log_slots::{Amount, AtEnd, Slot, lock_soon};
 use media_agents::{Clock, DriverNaming, LogAt, Stamp, Stepped};
 use published_registry::{Pass, caches_stay_right_of_later_looks};
-use std::sync::ledger::Share;
 use std::sync::{Mutex, Wait};
 
 /// Where a log is.
@@ -57,15 +56,13 @@ fn log_at(registry: &driver_core::Registry, client: u64, registration: u64) -> O
     })
 }
 
-/// One hold of a log's lock, with one look within it; the lock of the totals comes last. Where they are at their greatest
-/// value and the message is not counted, `ended` has that from then on.
+/// One hold of a log's lock, with one look within it. Where no more messages are counted, `ended` has that from then on.
 fn offer_once<N: DriverNaming, R: Wait>(
     rt: &R,
     slot: &Mutex<Slot<N>>,
-    totals: &Mutex<Totals<N>>,
     pass: Pass,
     cache: &mut Cache,
-    mine: &mut Share<OfClients<N>>,
+    mine: &mut Amount<N>,
     ended: &mut Option<AtEnd<N>>,
     now: u64,
     client: u64,
@@ -77,8 +74,8 @@ fn offer_once<N: DriverNaming, R: Wait>(
     ensures known { IsContinuedBy pass result.0 }
     ensures part { mine.new.parts ≡ 1 }
     ensures right { AreCached (registry_of result.0) cache.new }
-    ensures counted { IfSome result.1 (λ told. (mine.new.amount ≡ mine.old.amount + taken_by told.answer) ⊎ ((mine.new.amount ≡ mine.old.amount) × IsSome ended.new)) }
-    ensures none { IfNone result.1 (mine.new.amount ≡ mine.old.amount) }
+    ensures counted { IfSome result.1 (λ told. (mine.new.number ≡ mine.old.number + taken_by told.answer) ⊎ ((mine.new.number ≡ mine.old.number) × IsSome ended.new)) }
+    ensures none { IfNone result.1 (mine.new.number ≡ mine.old.number) }
     ensures stamp { IfSome result.1 (λ told. told.stamp ≡ stamp_of result.0) }
     ensures step { IfSome result.1 (λ told. IsStep N.home (offer_move (registry_of result.0) now client registration message.now) (OfferedAs Closed) told.answer) }
     ensures decides { IfSome result.1 (λ told. IsDecided N.home (offer_move (registry_of result.0) now client registration message.now) (offer_decision (registry_of result.0) client registration) (OfferedAs Closed) told.answer told.decision) }
@@ -88,14 +85,9 @@ fn offer_once<N: DriverNaming, R: Wait>(
     slot.holds();
     match pass.enter() {
         Ok(look) => {
-            let mut late = Late {
-                rt,
-                totals,
-                end: ended.take(),
-            };
             let told = slot.offer(
-                &mut late,
                 mine,
+                ended,
                 &look,
                 cache,
                 now,
@@ -103,7 +95,6 @@ fn offer_once<N: DriverNaming, R: Wait>(
                 registration,
                 message,
             );
-            *ended = late.end;
             let told = Stepped::of(told, Stamp::of(&look));
             (look.leave(), Some(told))
         }
@@ -166,8 +157,8 @@ impl<N: DriverNaming, C: Clock> Client<N, C> {
 
     /// Offers a message to the log of a publication of this client's, and gives the position after it. It is one look, if
     /// the client does not remember where that log is, and then one hold of the log's lock with one look within it. Such a
-    /// message is counted by the client's share, unless the total is at its greatest value; no other is. What was decided is
-    /// kept in the client's audit. It takes no memory.
+    /// message is counted, unless no more are counted of its slot, or for the client; no other is. What was decided is kept in
+    /// the client's audit. It takes no memory.
     ///
     /// # Errors
     /// The first that applies, by the registry of that look: `Closed`, `Denied`, `TooLong`, `NotConnected`, `MaxPosition`,
@@ -203,10 +194,9 @@ impl<N: DriverNaming, C: Clock> Client<N, C> {
         let (pass, told) = offer_once(
             rt,
             slot,
-            &self.totals,
             pass,
             &mut self.cache,
-            &mut self.share,
+            &mut self.counted,
             &mut self.ended,
             now,
             self.number,

@@ -28,7 +28,7 @@ pub(crate) const PUBLICATIONS: u32 = 256;
 pub(crate) const IMAGES: u32 = 512;
 
 /// What a driver is made of: the region of its logs, its registry with a pass for each agent that looks and each client, the
-/// queue of commands, and the ledgers of messages. It can't be let go: [`Driver::start`](crate::Driver::start) or
+/// queue of commands, and the ledgers of messages and of clients. It can't be let go: [`Driver::start`](crate::Driver::start) or
 /// [`Parts::end`] ends it.
 pub struct Parts {
     pub(crate) publisher: Publisher,
@@ -59,12 +59,13 @@ pub(crate) struct Hands {
     pub(crate) senders: Vec<Sender<Event>>,
 }
 
-/// The ledgers of messages, before they are opened: a part for each client and one for the driver, which keeps what clients
-/// counted that came back; and a part for each slot.
+/// The ledgers, before they are opened.
 #[derive(Drop)]
 pub(crate) struct Blanks {
+    /// Of messages: a part for each slot and each client, and one for the driver, which keeps what clients counted that came back.
+    pub(crate) messages: Blank,
+    /// Of clients: a part for each, and one for the driver.
     pub(crate) clients: Blank,
-    pub(crate) slots: Blank,
 }
 
 impl Model for Parts {
@@ -77,10 +78,10 @@ impl Model for Parts {
 
     ghost view = { λ parts. record {
       home = parts.pieces.store.arena.home;
+      ledger = parts.pieces.blanks.messages.name;
+      parts = parts.pieces.blanks.messages.parts;
       client_ledger = parts.pieces.blanks.clients.name;
       client_parts = parts.pieces.blanks.clients.parts;
-      slot_ledger = parts.pieces.blanks.slots.name;
-      slot_parts = parts.pieces.blanks.slots.parts;
       book = parts.publisher.book;
       opening = registry_of parts.publisher;
     } };
@@ -88,7 +89,7 @@ impl Model for Parts {
     ghost invariant = { λ parts. IsSound (registry_of parts.publisher)
         × AreFresh parts.publisher.book parts.pieces.hands.passes.items parts.pieces.hands.senders.items
         × (length parts.pieces.hands.passes.items ≡ 66) × (length parts.pieces.hands.senders.items ≡ 66)
-        × (parts.pieces.blanks.clients.parts ≡ 65) × (parts.pieces.blanks.slots.parts ≡ 256) };
+        × (parts.pieces.blanks.messages.parts ≡ 321) × (parts.pieces.blanks.clients.parts ≡ 65) };
 }
 
 impl Hands {
@@ -148,7 +149,7 @@ impl Parts {
     ) -> Result<Parts, MakeFault>
         requires { AreSettings settings }
         ensures opening { IfOk result (λ parts. parts.opening ≡ opened settings policy peers.now) }
-        ensures parts { IfOk result (λ parts. (parts.client_parts ≡ 65) × (parts.slot_parts ≡ 256)) }
+        ensures parts { IfOk result (λ parts. (parts.parts ≡ 321) × (parts.client_parts ≡ 65)) }
     {
         let registry = Registry::new(alloc, settings, policy, peers)?;
         let (store, senders) = make_store(alloc, settings)?;
@@ -160,8 +161,8 @@ impl Parts {
                     store,
                     hands: Hands { passes, senders },
                     blanks: Blanks {
+                        messages: Blank::new(CLIENTS as u64 + 1 + PUBLICATIONS as u64),
                         clients: Blank::new(CLIENTS as u64 + 1),
-                        slots: Blank::new(PUBLICATIONS as u64),
                     },
                 },
             }),

@@ -1,11 +1,11 @@
 //! All memory that a driver needs beside its parts is taken before a thread begins.
 
 ghost use Rattle.media_driver.specs.Parts.{AreFresh};
-ghost use Rattle.std.specs.Prelude.{◌≡◌, ◌+◌, [], IfOk, OnOk, length};
+ghost use Rattle.std.specs.Prelude.{◌≡◌, ◌+◌, ◌*◌, ◌^◌, [], IfOk, OnOk, length};
 
 use crate::parts::{Hands, Pieces, Store};
 use crate::seats::{Seats, make_seats};
-use crate::starting::{Base, Common, Ledgers, make_base, shared};
+use crate::starting::{Base, Common, Ledger, make_base, shared};
 use crate::works::{Receiving, Sending};
 use channel_uri::Address;
 use command_queue::Taker;
@@ -131,7 +131,7 @@ fn make_agents<N: DriverNaming, R: Wait + Copy + Drop, G: Gate + Drop, W: Wire +
 #[derive(Drop)]
 pub(crate) struct Kept<N: DriverNaming> {
     pub(crate) common: Common<N>,
-    pub(crate) ledgers: Ledgers<N>,
+    pub(crate) ledger: Ledger<N>,
     pub(crate) queue: EventSender,
     pub(crate) elicitations: Elicitations,
     pub(crate) seats: Seats<N>,
@@ -147,7 +147,7 @@ fn keep<N: DriverNaming>(
     requires fresh { AreFresh N.book hands.passes.items hands.senders.items }
     requires passes { length hands.passes.items ≡ 64 }
     requires senders { length hands.senders.items ≡ 65 }
-    ensures ledgers { IfOk result (λ made. made.0.ledgers ≡ base.ledgers) }
+    ensures ledger { IfOk result (λ made. made.0.ledger ≡ base.ledger) }
     ensures queue { IfOk result (λ made. made.0.queue.sent ≡ []) }
     ensures elicited { IfOk result (λ made. made.0.elicitations ≡ elicitations) }
     ensures seats { IfOk result (λ made. made.0.seats ≡ 64) }
@@ -155,10 +155,10 @@ fn keep<N: DriverNaming>(
     let mut hands = hands;
     let queue = hands.sender::<N>();
     let (rings, seats) = make_seats(alloc, &mut hands)?;
-    let Base { common, ledgers } = base;
+    let Base { common, ledger } = base;
     let kept = Kept {
         common,
-        ledgers,
+        ledger,
         queue,
         elicitations,
         seats,
@@ -219,13 +219,15 @@ pub(crate) fn prepare<N: DriverNaming, R: Wait + Copy + Drop, G: Gate + Drop, W:
     gate: G,
     wire: W,
 ) -> Result<Prepared<N, G, Shared<W, R>>, AllocError>
-    requires clients { (pieces.blanks.clients.name ≡ N.client_ledger) × (pieces.blanks.clients.parts ≡ N.client_parts) }
-    requires slots { (pieces.blanks.slots.name ≡ N.slot_ledger) × (pieces.blanks.slots.parts ≡ N.slot_parts) × (N.slot_parts ≡ 256) }
+    requires messages { (pieces.blanks.messages.name ≡ N.ledger) × (pieces.blanks.messages.parts ≡ N.parts) × (N.parts ≡ 321) }
+    requires clients { (pieces.blanks.clients.name ≡ N.client_ledger) × (pieces.blanks.clients.parts ≡ N.client_parts) × (N.client_parts ≡ 65) }
     requires fresh { AreFresh N.book pieces.hands.passes.items pieces.hands.senders.items }
     requires passes { length pieces.hands.passes.items ≡ 66 }
     requires senders { length pieces.hands.senders.items ≡ 66 }
     ensures arena { IfOk result (λ prepared. prepared.desks.arena ≡ pieces.store.arena) }
-    ensures shares { IfOk result (λ prepared. (prepared.kept.ledgers.clients.parts ≡ N.client_parts) × (prepared.kept.ledgers.clients.amount ≡ 0)) }
+    ensures counted { IfOk result (λ prepared. prepared.kept.ledger.counted ≡ record { parts = 65; number = 0 }) }
+    ensures clients { IfOk result (λ prepared. prepared.kept.ledger.clients.parts ≡ 65) }
+    ensures total { IfOk result (λ prepared. (prepared.kept.ledger.total.amount ≡ 256 * 2 ^ 55) × (prepared.kept.ledger.total.parts ≡ 321)) }
     ensures queue { IfOk result (λ prepared. prepared.kept.queue.sent ≡ []) }
     ensures elicited { IfOk result (λ prepared. prepared.kept.elicitations ≡ []) }
     ensures seats { IfOk result (λ prepared. prepared.kept.seats ≡ 64) }

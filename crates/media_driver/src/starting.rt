@@ -1,13 +1,13 @@
 //! The memory that a driver takes as it starts: what counts its messages, and what its threads have in common.
 
-ghost use Rattle.std.specs.Prelude.{◌≡◌, IfOk, OnOk};
+ghost use Rattle.std.specs.Prelude.{◌≡◌, ◌+◌, ◌*◌, ◌^◌, ◌<◌, ◌≤◌, IfOk, OnOk};
 
 use crate::parts::{Blanks, IMAGES, PUBLICATIONS};
-use log_slots::{LogSlot, Naming, OfClients, OfSlots, Slot, Totals};
+use log_slots::{Amount, LogSlot, Naming, OfClients, OfMessages, ROOM, Slot};
 use media_agents::{Desk, DriverNaming, Journal, Slots};
 use std::alloc::{AllocError, Global};
 use std::sync::atomic::AtomicBool;
-use std::sync::ledger::Share;
+use std::sync::ledger::{Share, Total};
 use std::sync::{Arc, Mutex};
 
 /// A value that several threads have.
@@ -18,17 +18,17 @@ pub(crate) fn shared<T: Drop>(alloc: Global, value: T) -> Result<Arc<T>, AllocEr
     }
 }
 
-/// The slots for the logs of publications, each with one part of the ledger.
+/// The slots for the logs of publications, each with what is counted of it at most.
 fn publication_slots<N: Naming>(
     alloc: Global,
-    share: &mut Share<OfSlots<N>>,
+    amount: &mut Amount<N>,
 ) -> Result<Vec<Mutex<Slot<N>>>, AllocError>
-    requires { (share.old.parts ≡ 256) × (share.old.amount ≡ 0) }
-    ensures { OnOk result ((share.new.parts ≡ 0) × (share.new.amount ≡ 0)) }
+    requires { amount.old ≡ record { parts = 321; number = 256 * 2 ^ 55 } }
+    ensures { OnOk result (amount.new ≡ record { parts = 65; number = 0 }) }
 {
     let mut slots = Vec::with_capacity(alloc, PUBLICATIONS as usize)?;
     for _made in 0..PUBLICATIONS {
-        slots.push(Mutex::new(Slot::new(share.split_off(1, 0))))?;
+        slots.push(Mutex::new(Slot::new(amount.split(ROOM))))?;
     }
     Ok(slots)
 }
@@ -64,42 +64,44 @@ impl<N: DriverNaming> Common<N> {
 
 /// What counts the messages that logs take.
 #[derive(Drop)]
-pub(crate) struct Ledgers<N: DriverNaming> {
-    pub(crate) totals: Arc<Mutex<Totals<N>>>,
-    /// What of the ledger of clients no client has.
+pub(crate) struct Ledger<N: DriverNaming> {
+    /// That no more are ever made than the slots had at first.
+    pub(crate) total: Total<OfMessages<N>>,
+    /// What of it no slot and no client has: what those clients counted that came back.
+    pub(crate) counted: Amount<N>,
+    /// The parts of clients that are not out, and the driver's own.
     pub(crate) clients: Share<OfClients<N>>,
-    /// What of the ledger of slots no slot has.
-    pub(crate) slots: Share<OfSlots<N>>,
 }
 
-/// Opens the ledgers.
-fn open_ledgers<N: DriverNaming>(alloc: Global, blanks: Blanks) -> Result<Ledgers<N>, AllocError>
-    requires clients { (blanks.clients.name ≡ N.client_ledger) × (blanks.clients.parts ≡ N.client_parts) }
-    requires slots { (blanks.slots.name ≡ N.slot_ledger) × (blanks.slots.parts ≡ N.slot_parts) }
-    ensures clients { IfOk result (λ ledgers. (ledgers.clients.parts ≡ N.client_parts) × (ledgers.clients.amount ≡ 0)) }
-    ensures slots { IfOk result (λ ledgers. (ledgers.slots.parts ≡ N.slot_parts) × (ledgers.slots.amount ≡ 0)) }
-{
-    let Blanks { clients, slots } = blanks;
-    let (client_book, clients) = clients.open::<OfClients<N>>();
-    let (slot_book, slots) = slots.open::<OfSlots<N>>();
-    let totals = shared(alloc, Mutex::new(Totals::new(client_book, slot_book)))?;
-    Ok(Ledgers {
-        totals,
-        clients,
-        slots,
-    })
+impl<N: DriverNaming> Ledger<N> {
+    /// A client comes back, with what it counted, and its part.
+    pub(crate) fn take_back(&mut self, counted: Amount<N>, part: Share<OfClients<N>>)
+        requires total { self.old.total.amount < 2 ^ 64 }
+        ensures counted { self.new.counted ≡ record { parts = self.old.counted.parts + counted.parts; number = self.old.counted.number + counted.number } }
+        ensures clients { (self.new.clients.parts ≡ self.old.clients.parts + part.parts) × (self.new.clients.parts ≤ N.client_parts) }
+        ensures amount { self.new.clients.amount ≡ self.old.clients.amount + part.amount }
+        ensures total { self.new.total ≡ self.old.total }
+    {
+        let Ledger {
+            total,
+            counted: all,
+            clients,
+        } = self;
+        all.merge(counted, total);
+        clients.merge(part);
+    }
 }
 
-/// The slots of a driver, each for a publication with its part of the ledger, and what else its threads have in common.
+/// The slots of a driver, each for a publication with its amount, and what else its threads have in common.
 fn make_common<N: DriverNaming>(
     alloc: Global,
-    share: &mut Share<OfSlots<N>>,
+    amount: &mut Amount<N>,
 ) -> Result<Common<N>, AllocError>
-    requires { (share.old.parts ≡ 256) × (share.old.amount ≡ 0) }
-    ensures { OnOk result ((share.new.parts ≡ 0) × (share.new.amount ≡ 0)) }
+    requires { amount.old ≡ record { parts = 321; number = 256 * 2 ^ 55 } }
+    ensures { OnOk result (amount.new ≡ record { parts = 65; number = 0 }) }
 {
     let slots = Slots {
-        publications: publication_slots(alloc, share)?,
+        publications: publication_slots(alloc, amount)?,
         images: image_slots(alloc)?,
         journal: Mutex::new(Journal::new(alloc)?),
     };
@@ -114,20 +116,28 @@ fn make_common<N: DriverNaming>(
 #[derive(Drop)]
 pub(crate) struct Base<N: DriverNaming> {
     pub(crate) common: Common<N>,
-    pub(crate) ledgers: Ledgers<N>,
+    pub(crate) ledger: Ledger<N>,
 }
 
-/// The ledgers are opened, and each slot for a publication has its part.
+/// The ledgers are opened, and each slot for a publication has its amount.
 pub(crate) fn make_base<N: DriverNaming>(
     alloc: Global,
     blanks: Blanks,
 ) -> Result<Base<N>, AllocError>
-    requires clients { (blanks.clients.name ≡ N.client_ledger) × (blanks.clients.parts ≡ N.client_parts) }
-    requires slots { (blanks.slots.name ≡ N.slot_ledger) × (blanks.slots.parts ≡ N.slot_parts) × (N.slot_parts ≡ 256) }
-    ensures clients { IfOk result (λ base. (base.ledgers.clients.parts ≡ N.client_parts) × (base.ledgers.clients.amount ≡ 0)) }
-    ensures slots { IfOk result (λ base. (base.ledgers.slots.parts ≡ 0) × (base.ledgers.slots.amount ≡ 0)) }
+    requires messages { (blanks.messages.name ≡ N.ledger) × (blanks.messages.parts ≡ N.parts) × (N.parts ≡ 321) }
+    requires clients { (blanks.clients.name ≡ N.client_ledger) × (blanks.clients.parts ≡ N.client_parts) × (N.client_parts ≡ 65) }
+    ensures counted { IfOk result (λ base. base.ledger.counted ≡ record { parts = 65; number = 0 }) }
+    ensures clients { IfOk result (λ base. base.ledger.clients.parts ≡ 65) }
+    ensures total { IfOk result (λ base. (base.ledger.total.amount ≡ 256 * 2 ^ 55) × (base.ledger.total.parts ≡ 321)) }
 {
-    let mut ledgers = open_ledgers(alloc, blanks)?;
-    let common = make_common(alloc, &mut ledgers.slots)?;
-    Ok(Base { common, ledgers })
+    let Blanks { messages, clients } = blanks;
+    let (total, mut counted) = Amount::open(messages, PUBLICATIONS);
+    let (_, clients) = clients.open::<OfClients<N>>();
+    let common = make_common(alloc, &mut counted)?;
+    let ledger = Ledger {
+        total,
+        counted,
+        clients,
+    };
+    Ok(Base { common, ledger })
 }

@@ -51,7 +51,7 @@ fn beside<
     wire: Shared<Network, R>,
     turns: &Turns,
 ) -> Outcome
-    requires { AreNamed M.home M.client_ledger M.client_parts M.slot_ledger M.slot_parts M.book parts }
+    requires { AreNamed M.home M.ledger M.parts M.client_ledger M.client_parts M.book parts }
 {
     match started::<M, R, Shared<Network, R>>(rt, alloc, parts, wire, &turns.other) {
         Ok(other) => between(rt, alloc, one, other, turns),
@@ -70,7 +70,7 @@ fn with_another<
     wires: (Shared<Network, R>, Shared<Network, R>),
     turns: &Turns,
 ) -> Outcome
-    requires { AreNamed N.home N.client_ledger N.client_parts N.slot_ledger N.slot_parts N.book parts }
+    requires { AreNamed N.home N.ledger N.parts N.client_ledger N.client_parts N.book parts }
 {
     let (wire, another) = wires;
     let one: Driver<N, R, MachineClock<R>> = started(rt, alloc, parts, wire, &turns.one)?;

@@ -36,7 +36,7 @@ fn goes<
     N: DriverNaming + Send + Sync + 'static,
     R: Threads + Wait + time::Clock + Copy + Drop + Send + Sync + 'static,
 >(rt: R, alloc: Global, parts: Parts, turns: &Arc<AtomicU64>, case: Case) -> Outcome
-    requires { AreNamed N.home N.client_ledger N.client_parts N.slot_ledger N.slot_parts N.book parts }
+    requires { AreNamed N.home N.ledger N.parts N.client_ledger N.client_parts N.book parts }
 {
     let mut driver: Driver<N, R, MachineClock<R>> = started(
         rt,

@@ -23,7 +23,7 @@ pub(crate) fn started<
     wire: W,
     turns: &Arc<AtomicU64>,
 ) -> Result<Driver<N, R, MachineClock<R>>, &'static str>
-    requires { AreNamed N.home N.client_ledger N.client_parts N.slot_ledger N.slot_parts N.book parts }
+    requires { AreNamed N.home N.ledger N.parts N.client_ledger N.client_parts N.book parts }
 {
     let Ok(counted) = Arc::try_clone(turns) else {
         parts.end(&rt);

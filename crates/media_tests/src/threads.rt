@@ -56,7 +56,7 @@ fn held_up<
     parts: Parts,
     gate: Holding,
 ) -> Result<Driver<N, R, MachineClock<R>>, StartFault>
-    requires { AreNamed N.home N.client_ledger N.client_parts N.slot_ledger N.slot_parts N.book parts }
+    requires { AreNamed N.home N.ledger N.parts N.client_ledger N.client_parts N.book parts }
 {
     let clock = match MachineClock::start(rt) {
         Ok(clock) => clock,
@@ -73,7 +73,7 @@ fn goes<
     N: DriverNaming + Send + Sync + 'static,
     R: Threads + Wait + time::Clock + Copy + Drop + Send + Sync + 'static,
 >(rt: R, alloc: Global, parts: Parts, gate: Holding, sender: &Held) -> Outcome
-    requires { AreNamed N.home N.client_ledger N.client_parts N.slot_ledger N.slot_parts N.book parts }
+    requires { AreNamed N.home N.ledger N.parts N.client_ledger N.client_parts N.book parts }
 {
     let Ok(mut driver) = held_up::<N, R>(rt, alloc, parts, gate) else {
         return Err("the driver does not start");

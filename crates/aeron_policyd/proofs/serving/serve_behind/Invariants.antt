@@ -7,8 +7,8 @@ ghosts-started-N-DriverNaming g a = record { book = a.parts.book }
 abbrev pub ghosts-started-N-Naming : goal.ghosts-started-N-Naming
 ghosts-started-N-Naming g a = record {
   home = a.parts.home;
+  ledger = a.parts.ledger;
+  parts = a.parts.parts;
   client_ledger = a.parts.client_ledger;
   client_parts = a.parts.client_parts;
-  slot_ledger = a.parts.slot_ledger;
-  slot_parts = a.parts.slot_parts;
 }

@@ -1,5 +1,5 @@
-use Rattle.std.proofs.Common.{◌≡◌, ◌+◌}
+use Rattle.std.proofs.Common.{◌≡◌, ◌+◌, ◌*◌, ◌^◌}
 use Rattle.agents_tests.proofs.common.publication_slots.Given as goal
 
 abbrev pub invariant-loop-made : goal.invariant-loop-made
-invariant-loop-made g l = (l.share.parts + l._made ≡ 3) × (l.share.amount ≡ 0)
+invariant-loop-made g l = (l.amount.parts + l._made ≡ 4) × (l.amount.number + l._made * 2 ^ 55 ≡ 3 * 2 ^ 55)

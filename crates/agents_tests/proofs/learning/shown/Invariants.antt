@@ -9,6 +9,6 @@ ghosts-seen_of-N-Naming g a = record {
   home = a.parts.pieces.arena.home;
   client_ledger = 0;
   client_parts = 0;
-  slot_ledger = a.parts.pieces.slots.name;
-  slot_parts = a.parts.pieces.slots.parts;
+  ledger = a.parts.pieces.messages.name;
+  parts = a.parts.pieces.messages.parts;
 }

@@ -1,5 +1,5 @@
-use Rattle.std.proofs.Common.{◌≡◌, ◌+◌}
+use Rattle.std.proofs.Common.{◌≡◌, ◌+◌, ◌*◌, ◌^◌}
 use Rattle.media_driver.proofs.starting.publication_slots.Given as goal
 
 abbrev pub invariant-loop-made : goal.invariant-loop-made
-invariant-loop-made g l = (l.share.parts + l._made ≡ 256) × (l.share.amount ≡ 0)
+invariant-loop-made g l = (l.amount.parts + l._made ≡ 321) × (l.amount.number + l._made * 2 ^ 55 ≡ 256 * 2 ^ 55)

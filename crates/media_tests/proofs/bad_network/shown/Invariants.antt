@@ -9,6 +9,6 @@ ghosts-with_another-N-Naming g a = record {
   home = a.parts.home;
   client_ledger = a.parts.client_ledger;
   client_parts = a.parts.client_parts;
-  slot_ledger = a.parts.slot_ledger;
-  slot_parts = a.parts.slot_parts;
+  ledger = a.parts.ledger;
+  parts = a.parts.parts;
 }

@@ -14,9 +14,9 @@ use Rattle.media_driver.proofs.client.Client.offer.Goals as goal
 
 pub returns-clause-counted : goal.returns-clause-counted
 returns-clause-counted g c =
-    let same : c.self.inside.share.amount ≡ c.args.self.now.counted = ap (λ (a : Attached). a.counted) (c.self.view_is ∙ c.log_of.ensures.new_is) in
+    let same : c.self.inside.counted.number ≡ c.args.self.now.counted = ap (λ (a : Attached). a.counted) (c.self.view_is ∙ c.log_of.ensures.new_is) in
     counted c.position_of.result c.in-Some-told.told.answer c.args.self.now _ c.position_of.ensures.answer c.position_of.ensures.counted
-    (subst (λ (n : ℕ). (c.offer_once-pass.new.mine.amount ≡ n + taken_by c.in-Some-told.told.answer) ⊎ ((c.offer_once-pass.new.mine.amount ≡ n) × IsSome c.offer_once-pass.new.ended)) same
+    (subst (λ (n : ℕ). (c.offer_once-pass.new.mine.number ≡ n + taken_by c.in-Some-told.told.answer) ⊎ ((c.offer_once-pass.new.mine.number ≡ n) × IsSome c.offer_once-pass.new.ended)) same
     (of_some _ c.offer_once-pass.result.1 c.in-Some-told.told c.in-Some-told.is c.offer_once-pass.ensures.counted))
 
 pub returns-clause-step : goal.returns-clause-step
