@@ -7,7 +7,7 @@ use Rattle.std.proofs.lemmas.List.Elements.{filter_agree}
 use Rattle.driver_core.specs.declared.setup_fault.SetupFault.{SetupFault}
 use Rattle.driver_core.specs.declared.setup_fault.SetupFault.TheVariants.{Denied}
 use Rattle.driver_core.specs.Pairs.{is_within_pairs, pairs_of}
-use Rattle.driver_core.specs.SettingUp.{allowed_for, fitting, has_room_for_setup, new_image, place_of_image, placing, room_for, setting_of, verdict_for, verdict_to, with_image}
+use Rattle.driver_core.specs.SettingUp.{allowed_for, fitting, has_room_for_setup, is_within_source, new_image, place_of_image, placing, room_for, setting_of, verdict_for, verdict_to, with_image}
 use Rattle.driver_core.specs.State.{State, has_number}
 use Rattle.client_registry.specs.Clients.{principal_at}
 use Rattle.log_readers.specs.Unread.{is_kept, is_of_source}
@@ -136,8 +136,9 @@ both_parts false c is = absurd (cc)
 pub has_its_room : (s : State) (wanted : ImageWanted) (place : ℕ) → setting_of s wanted ≡ Ok place →
     (has_room_for_image s.streams ≡ true) × (has_number s ≡ true)
 has_its_room s wanted place set =
-    let room = both_parts (has_room_for_image s.streams) (has_number s && is_within_pairs (with_image s wanted)) (is_set s wanted place set).room in
-    (room.0, (both_parts (has_number s) (is_within_pairs (with_image s wanted)) room.1).0)
+    let room = both_parts (has_room_for_image s.streams) _ (is_set s wanted place set).room in
+    let source = both_parts (is_within_source s wanted) (has_number s && is_within_pairs (with_image s wanted)) room.1 in
+    (room.0, (both_parts (has_number s) (is_within_pairs (with_image s wanted)) source.1).0)
 
 -- its log goes there
 pub place_is_set : (s : State) (wanted : ImageWanted) (place : ℕ) → setting_of s wanted ≡ Ok place →

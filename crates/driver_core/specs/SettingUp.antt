@@ -1,6 +1,7 @@
 -- SETUP of a remote publisher: an image of its stream comes, or the SETUP is dropped. Own rules.
-use Rattle.std.specs.Prelude.{ℕ, ◌+◌, Bool, false, not, ◌&&◌, List, [], ◌∷◌, filter, Option, Some, None, Result, Ok, Err, is_some, unwrap_or, if◌then◌else◌}
+use Rattle.std.specs.Prelude.{ℕ, ◌+◌, Bool, false, not, ◌&&◌, nat_lt, List, [], ◌∷◌, filter, length, Option, Some, None, Result, Ok, Err, is_some, unwrap_or, if◌then◌else◌}
 use Rattle.std.specs.List.{list_any}
+use Rattle.std.specs.Str.{bytes_eq}
 use Rattle.driver_core.specs.declared.outcome.Response.TheVariants.{Imaged, Dropped}
 use Rattle.driver_core.specs.declared.setup_fault.SetupFault.{SetupFault}
 use Rattle.driver_core.specs.declared.setup_fault.SetupFault.TheVariants.{BadSetup, Exists, NoSubscription, Denied, Full, NoRoom}
@@ -19,6 +20,7 @@ use Rattle.stream_registry.specs.declared.row.Source.{Source}
 use Rattle.stream_registry.specs.declared.row.Subscription.{Subscription}
 use Rattle.stream_registry.specs.declared.wanted.ImageWanted.{ImageWanted}
 use Rattle.stream_registry.specs.Images.{has_room_for_image, image_at, image_of, image_place_for, imaged}
+use Rattle.stream_registry.specs.Origins.{address_of}
 use Rattle.stream_registry.specs.Pairs.{fits, image_question, is_allowed}
 
 -- ---- what is made
@@ -52,10 +54,23 @@ with_image s wanted = record s {
 
 -- ---- in which order it is dropped
 
+abbrev pub sends_from : Address → Option Address → Bool
+sends_from from None = false
+sends_from from (Some publisher) = bytes_eq publisher.octets from.octets
+
+-- it is an image whose publisher sends from that address, from whichever port
+abbrev pub is_from : Address → Source → Bool
+is_from from log = sends_from from (address_of log)
+
+-- fewer images than the driver is set to have of one source are of that publisher's address
+abbrev pub is_within_source : State → ImageWanted → Bool
+is_within_source s wanted = nat_lt (length (filter (is_from wanted.address) s.streams.sources)) s.settings.images_per_source
+
 -- no number is used again, and there are at most 4,096 pairs
 abbrev pub has_room_for_setup : State → ImageWanted → Bool
 has_room_for_setup s wanted =
-    has_room_for_image s.streams && (has_number s && is_within_pairs (with_image s wanted))
+    has_room_for_image s.streams
+    && (is_within_source s wanted && (has_number s && is_within_pairs (with_image s wanted)))
 
 abbrev pub placing : Option ℕ → Result ℕ SetupFault
 placing None = Err NoRoom

@@ -18,6 +18,7 @@ default_settings = record {
   term_length = 65536;
   mtu = 1408;
   arena_pages = 4096;
+  images_per_source = 512;
   first_session = pos 1;
   initial_term = pos 0;
   receiver_id = 1;

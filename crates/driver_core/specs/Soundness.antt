@@ -30,6 +30,8 @@ pub record AreSettings (settings : Settings) : Type 0 where
   pub sizes : AreSizes (record { mtu = settings.mtu; term_length = settings.term_length; linger = settings.linger })
   pub some_pages : 0 < settings.arena_pages
   pub few_pages : settings.arena_pages ≤ 65536
+  pub some_images : 0 < settings.images_per_source
+  pub few_images : settings.images_per_source ≤ 512
 
 -- the source numbers ascend, above that number and up to the last one that was drawn
 abbrev pub Ascend : ℕ → ℕ → List Source → Type 0

@@ -1,6 +1,6 @@
 //! A remote publisher announces its stream.
 
-ghost use Rattle.driver_core.specs.SettingUp.{allowed_for, fitting, has_room_for_setup, new_image, place_of_image, room_for, set_up, setting_of, verdict_for, wanted_by, with_image};
+ghost use Rattle.driver_core.specs.SettingUp.{allowed_for, fitting, has_room_for_setup, is_from, is_within_source, new_image, place_of_image, room_for, set_up, setting_of, verdict_for, wanted_by, with_image};
 ghost use Rattle.driver_core.specs.Pairs.{pairs_of, prospects_of};
 ghost use Rattle.driver_core.specs.Renewal.{outcome_by, outcome_opening};
 ghost use Rattle.driver_core.specs.State.{at_moment, has_number};
@@ -8,7 +8,7 @@ ghost use Rattle.driver_core.specs.Told.{tells_answer, told_of};
 ghost use Rattle.driver_core.specs.declared.outcome.Response.TheVariants.{Imaged};
 ghost use Rattle.frame_codec.specs.Join.{join_of};
 ghost use Rattle.log_readers.specs.Numbering.{AreInOrder};
-ghost use Rattle.std.specs.Prelude.{◌≡◌, ◌+◌, Ok, Some, true, length, IfOk};
+ghost use Rattle.std.specs.Prelude.{◌≡◌, ◌+◌, Ok, Some, true, filter, length, IfOk};
 ghost use Rattle.stream_registry.specs.Images.{has_room_for_image};
 ghost use Rattle.stream_registry.specs.Lingering.{place_of};
 
@@ -43,6 +43,23 @@ fn wanted_by(local: &Address, from: &Address, setup: &Setup, join: &Join) -> Ima
             linger: 0,
         },
     }
+}
+
+/// Whether it is an image whose publisher sends from that address, from whichever port.
+fn is_from(log: &Source, from: &Address) -> bool
+    ensures { result ≡ is_from from.now log.now }
+{
+    match log.address() {
+        Some(publisher) => publisher.octets == from.octets,
+        None => false,
+    }
+}
+
+/// How many of these logs are images whose publisher sends from that address. It takes no memory.
+fn images_from(logs: &[Source], from: &Address) -> usize
+    ensures { result ≡ length (filter (is_from from.now) logs.now) }
+{
+    logs.iter().filter(|log| is_from(log, from)).count()
 }
 
 impl Registry {
@@ -119,12 +136,22 @@ impl Registry {
         self.pairs_ever_with_image(wanted)
     }
 
-    /// Whether there is room for one image more, a number for it, and room for its pairs. It takes no memory.
+    /// Whether fewer images than may be of one source are of that publisher's address. It takes no memory.
+    fn is_within_source(&self, wanted: &ImageWanted) -> bool
+        ensures { result ≡ is_within_source self.now wanted.now }
+    {
+        images_from(self.streams.sources(), &wanted.address)
+            < self.settings.images_per_source as usize
+    }
+
+    /// Whether there is room for one image more and for one of its source, a number for it, and room for its pairs. It takes
+    /// no memory.
     #[tactic(auto, unfolding(crate::specs::Pairs::is_within_pairs))]
     fn has_room_for_setup(&self, wanted: &ImageWanted) -> bool
         ensures { result ≡ has_room_for_setup self.now wanted.now }
     {
         self.streams.has_room_for_image()
+            && self.is_within_source(wanted)
             && self.has_number()
             && self.pairs_with_image(wanted) <= PAIRS
     }

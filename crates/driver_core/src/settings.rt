@@ -31,6 +31,8 @@ pub struct Settings {
     pub mtu: u32,
     /// How many pages of 4,096 bytes the logs share.
     pub arena_pages: u32,
+    /// How many images may be open whose publisher sends from one source address, whatever its port: 1 to 512.
+    pub images_per_source: u32,
     /// The first session id that is drawn.
     pub first_session: i32,
     /// The term id at which a log begins.
@@ -63,6 +65,7 @@ impl Default for Settings {
             term_length: 65_536,
             mtu: 1_408,
             arena_pages: 4_096,
+            images_per_source: 512,
             first_session: 1,
             initial_term: 0,
             receiver_id: 1,

@@ -59,6 +59,7 @@ pub mod RoomLemmas
 pub mod RuleLemmas
 pub mod SettingCauseLemmas
 pub mod SettingUpLemmas
+pub mod SourceLemmas
 pub mod StayingLemmas
 pub mod SubscribingLemmas
 pub mod SubscribingOnlyLemmas

@@ -59,6 +59,7 @@ use Rattle.driver_core.proofs.SettingLemmas.{is_set}
 use Rattle.driver_laws.proofs.EveryLemmas.{after_any}
 use Rattle.driver_laws.proofs.OwnerLemmas.{opened_owned, stay_owned}
 use Rattle.driver_laws.proofs.PairCountLemmas.{HasNoMoreProspects, pairs_are_prospects, prospects_attached, prospects_closed, prospects_left, prospects_ruled, prospects_unread, prospects_unregistered, prospects_unsubscribed}
+use Rattle.driver_laws.proofs.SourceLemmas.{AreWithin, added_within, closed_within, count_from, imaged_within, kept_within, left_within, subscribed_within, unregistered_within, unsubscribed_within}
 use Rattle.driver_laws.proofs.TurningLemmas.{owned_at}
 
 -- ---- the lists
@@ -68,6 +69,7 @@ pub record IsWithin (s : State) : Type 0 where
   pub streams : StreamsAreWithin s.streams
   pub counters : length s.counters ≤ 1024
   pub prospects : length (prospects_of s) ≤ 4096
+  pub images : AreWithin s.settings.images_per_source s.streams.sources
 
 one_more : {A : Type 0} (rows : List A) (row : A) (limit : ℕ) → length rows < limit → length (rows ++ row ∷ []) ≤ limit
 one_more rows row limit few =
@@ -121,6 +123,7 @@ attached_within s principal owned room within = record {
   counters = within.counters;
   prospects = no_more s (record s { clients = admitted s.clients principal s.moment }) (prospects_attached s principal owned)
       within.prospects;
+  images = within.images;
 }
 
 subscription_within : (s : State) (request : SubscriptionRequest) →
@@ -136,6 +139,8 @@ subscription_within s request room within =
           request.fields.stream within.streams lists.1;
       counters = within.counters;
       prospects = within_pairs (with_subscription s request.client.number request.channel request.fields.stream) parts.1;
+      images = subscribed_within s.settings.images_per_source s.streams (s.last_number + 1) request.client.number request.channel
+          request.fields.stream within.images;
     }
 
 publication_within : (s : State) (client : Client) (correlation : ℕ) (wanted : Wanted) (adding : Adding) →
@@ -149,6 +154,7 @@ publication_within s client correlation wanted adding is room within =
       streams = stays_within_limits.added s.streams (s.last_number + 1) client.number _ wanted adding within.streams is;
       counters = within.counters;
       prospects = within_pairs (with_publication s client.number wanted adding) parts.1;
+      images = added_within s.settings.images_per_source s.streams (s.last_number + 1) client.number _ wanted adding within.images;
     }
 
 counter_within : (s : State) (client : Client) (correlation : ℕ) (fields : AddCounter) →
@@ -159,6 +165,7 @@ counter_within s client correlation fields room within = record {
   streams = within.streams;
   counters = one_more s.counters _ 1024 (ltb-true (length s.counters) 1024 (and_parts _ _ room).0);
   prospects = within.prospects;
+  images = within.images;
 }
 
 reloaded_within : (s : State) (policy : Rules) → has_room_for_policy s policy ≡ true → IsWithin s →
@@ -169,6 +176,7 @@ reloaded_within s policy room within = record {
   streams = within.streams;
   counters = within.counters;
   prospects = within_pairs (in_force s policy) (and_parts _ _ room).0;
+  images = within.images;
 }
 
 -- ---- what goes, or has another value
@@ -181,6 +189,7 @@ value_within s client correlation fields within = record {
   streams = within.streams;
   counters = as_many (set_one client.number fields.registration fields.value) s.counters 1024 within.counters;
   prospects = within.prospects;
+  images = within.images;
 }
 
 destination_within : (s : State) (client : Client) (correlation : ℕ) (granted : _) → IsWithin s →
@@ -191,6 +200,7 @@ destination_within s client correlation granted within = record {
   streams = within.streams;
   counters = within.counters;
   prospects = within.prospects;
+  images = within.images;
 }
 
 destination_removal_within : (s : State) (client : Client) (correlation : ℕ) (target : _) → IsWithin s →
@@ -201,6 +211,7 @@ destination_removal_within s client correlation target within = record {
   streams = within.streams;
   counters = within.counters;
   prospects = within.prospects;
+  images = within.images;
 }
 
 counter_removal_within : (s : State) (client : Client) (correlation number : ℕ) → IsWithin s →
@@ -211,6 +222,7 @@ counter_removal_within s client correlation number within = record {
   streams = within.streams;
   counters = fewer (is_another client.number number) s.counters 1024 within.counters;
   prospects = within.prospects;
+  images = within.images;
 }
 
 removal_within : (s : State) (request : RemovalRequest) → IsWithin s →
@@ -221,6 +233,8 @@ removal_within s request within = record {
   streams = stays_within_limits.unsubscribed s.streams request.client.number request.fields.registration within.streams;
   counters = within.counters;
   prospects = no_more s _ (prospects_unsubscribed s request.client.number request.fields.registration) within.prospects;
+  images = unsubscribed_within s.settings.images_per_source s.streams request.client.number request.fields.registration
+      within.images;
 }
 
 publication_removal_within : (s : State) (client : Client) (correlation number : ℕ) → IsWithin s →
@@ -231,6 +245,7 @@ publication_removal_within s client correlation number within = record {
   streams = stays_within_limits.unregistered s.streams client.number number s.moment within.streams;
   counters = within.counters;
   prospects = rw (prospects_unregistered s client.number number s.moment) within.prospects;
+  images = unregistered_within s.settings.images_per_source s.streams client.number number s.moment within.images;
 }
 
 one_left_within : (s : State) (client : ℕ) → IsWithin s → IsWithin (left s client)
@@ -240,6 +255,7 @@ one_left_within s client within = record {
   streams = stays_within_limits.left s.streams client s.moment within.streams;
   counters = fewer (is_of_another client) s.counters 1024 within.counters;
   prospects = no_more s (left s client) (prospects_left s client) within.prospects;
+  images = left_within s.settings.images_per_source s.streams client s.moment within.images;
 }
 
 closing_within : (s : State) (client : Client) (correlation : ℕ) → IsWithin s →
@@ -258,6 +274,7 @@ ticked_within s clients silent within = record {
   streams = stays_within_limits.closed s.streams s.moment silent within.streams;
   counters = within.counters;
   prospects = no_more s (record s { streams = closed s.streams s.moment silent }) (prospects_closed s s.moment silent) within.prospects;
+  images = closed_within s.settings.images_per_source s.streams s.moment silent within.images;
 }
 
 tick_within : (s : State) (silent : List ℕ) → IsWithin s → IsWithin (tick s silent).after
@@ -269,11 +286,14 @@ image_within : (s : State) (wanted : ImageWanted) (place : ℕ) → setting_of s
 unfolding image_made with_image answered
 image_within s wanted place set within =
     let parts = and_parts _ _ (is_set s wanted place set).room in
+    let rest = and_parts _ _ parts.1 in
     record {
       clients = within.clients;
       streams = stays_within_limits.imaged s.streams (s.last_number + 1) _ wanted within.streams parts.0;
       counters = within.counters;
-      prospects = within_pairs (with_image s wanted) (and_parts _ _ parts.1).1;
+      prospects = within_pairs (with_image s wanted) (and_parts _ _ rest.1).1;
+      images = imaged_within s.settings.images_per_source s.streams (s.last_number + 1) _ wanted
+          (ltb-true (count_from wanted.address s.streams.sources) s.settings.images_per_source rest.0) within.images;
     }
 
 unread_within : (s : State) → IsWithin s → IsWithin (without_unread s)
@@ -287,6 +307,7 @@ unread_within s within = record {
   };
   counters = within.counters;
   prospects = no_more s (without_unread s) (prospects_unread s) within.prospects;
+  images = kept_within s.settings.images_per_source (is_kept _) s.streams.sources within.images;
 }
 
 termination_within : (s : State) (client : Client) (correlation : ℕ) → IsWithin s →
@@ -297,6 +318,7 @@ termination_within s client correlation within = record {
   streams = stays_within_limits.cleared s.streams within.streams;
   counters = omega arith;
   prospects = omega arith;
+  images = λ from. omega arith;
 }
 
 -- ---- each event
@@ -308,6 +330,7 @@ moment_within s now within = record {
   streams = within.streams;
   counters = within.counters;
   prospects = within.prospects;
+  images = within.images;
 }
 
 moment_owned : (s : State) (now : ℕ) → HaveTheirClients s → HaveTheirClients (at_moment s now)
@@ -334,6 +357,7 @@ request_within s now handle within = record {
   streams = within.streams;
   counters = within.counters;
   prospects = prospects_at_request s now handle within.prospects;
+  images = within.images;
 }
 
 abbrev DraftWithin : Draft → Type 0
@@ -407,6 +431,7 @@ ruled_within s now timely within = record {
   streams = within.streams;
   counters = within.counters;
   prospects = no_more s (ruled s now) (prospects_ruled s now timely) within.prospects;
+  images = within.images;
 }
 
 pub event_within : (s : State) (event : Event) (inputs : Inputs) → IsAtItsMoment s → HaveTheirClients s → IsWithin s →
@@ -426,6 +451,7 @@ opened_within settings policy peers = record {
   streams = stays_within_limits.opened _ _;
   counters = omega arith;
   prospects = omega arith;
+  images = λ from. omega arith;
 }
 
 -- a client that comes makes no pair, since no subscription is of one that is not there
@@ -452,4 +478,5 @@ limits_kept settings policy peers events =
       counters = within.counters;
       pairs = omega (arith, few, fewer');
       prospects = few;
+      images = within.images;
     }

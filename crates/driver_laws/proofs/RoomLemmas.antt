@@ -8,7 +8,7 @@ use Rattle.driver_core.specs.Pairs.{is_within_pairs, prospects_of}
 use Rattle.driver_core.specs.Directing.{can_direct, has_room_for_sole, sole_address}
 use Rattle.driver_core.specs.Publishing.{with_publication}
 use Rattle.driver_core.specs.Reloading.{in_force}
-use Rattle.driver_core.specs.SettingUp.{has_room_for_setup, with_image}
+use Rattle.driver_core.specs.SettingUp.{has_room_for_setup, is_from, is_within_source, with_image}
 use Rattle.driver_core.specs.State.{State, has_number}
 use Rattle.driver_core.specs.Subscribing.{has_room_for_subscription, with_subscription}
 use Rattle.driver_laws.specs.DestinationLaws.{AreOfLive, HasPublication}
@@ -65,12 +65,15 @@ subscription_room s client channel stream left' few pairs =
     (few_pairs (with_subscription s client channel stream) pairs)
 
 image_room : (s : State) (wanted : ImageWanted) → IsLeft s.last_number → length (filter is_remote s.streams.sources) < 512 →
+    length (filter (is_from wanted.address) s.streams.sources) < s.settings.images_per_source →
     length (prospects_of (with_image s wanted)) ≤ 4096 → has_room_for_setup s wanted ≡ true
-image_room s wanted left' few pairs =
-    both_hold (has_room_for_image s.streams) (has_number s && is_within_pairs (with_image s wanted))
+image_room s wanted left' few source pairs =
+    both_hold (has_room_for_image s.streams) _
     (lt-ltb (length (filter is_remote s.streams.sources)) 512 few)
+    (both_hold (is_within_source s wanted) (has_number s && is_within_pairs (with_image s wanted))
+    (lt-ltb (length (filter (is_from wanted.address) s.streams.sources)) s.settings.images_per_source source)
     (both_hold (has_number s) (is_within_pairs (with_image s wanted)) (number_left s left')
-    (few_pairs (with_image s wanted) pairs))
+    (few_pairs (with_image s wanted) pairs)))
 
 -- ---- the lists of publications
 

@@ -8,7 +8,7 @@ use Rattle.driver_core.specs.declared.setup_fault.SetupFault.{SetupFault}
 use Rattle.driver_core.specs.declared.setup_fault.SetupFault.TheVariants.{BadSetup, Denied, Exists, Full, NoRoom, NoSubscription}
 use Rattle.driver_core.specs.Conduct.{conduct, drafted}
 use Rattle.driver_core.specs.Pairs.{is_within_pairs, prospects_of}
-use Rattle.driver_core.specs.SettingUp.{allowed_for, fitting, has_room_for_setup, new_image, place_of_image, placing, room_for, set_up, setting_of, verdict_for, wanted_by, with_image}
+use Rattle.driver_core.specs.SettingUp.{allowed_for, fitting, has_room_for_setup, is_from, new_image, place_of_image, placing, room_for, set_up, setting_of, verdict_for, wanted_by, with_image}
 use Rattle.driver_core.specs.Renewal.{renewed}
 use Rattle.driver_core.specs.State.{State, at_moment, has_number, ruled}
 use Rattle.driver_core.specs.Unread.{dropping}
@@ -78,21 +78,24 @@ has_room : (s : State) (now : ℕ) (wanted : ImageWanted) → has_room_for_setup
 unfolding at_moment has_number is_within_pairs
 has_room s now wanted room =
     let parts = and_parts _ _ room in
-    let rest = and_parts _ _ parts.1 in
+    let source = and_parts _ _ parts.1 in
+    let rest = and_parts _ _ source.1 in
     record {
       images = ltb-true (length (filter is_remote s.streams.sources)) 512 parts.0;
+      source = ltb-true (length (filter (is_from wanted.address) s.streams.sources)) s.settings.images_per_source source.0;
       number = ltb-true s.last_number 18446744073709551615 rest.0;
       pairs = leb-true (length (prospects_of (with_image (at_moment s now) wanted))) 4096 rest.1;
     }
 
-all_three : (a b c : Bool) → a ≡ true → b ≡ true → c ≡ true → (a && (b && c)) ≡ true
-all_three a b c one two three = rw (one, two, three) refl
+all_four : (a b c d : Bool) → a ≡ true → b ≡ true → c ≡ true → d ≡ true → (a && (b && (c && d))) ≡ true
+all_four a b c d one two three four = rw (one, two, three, four) refl
 
 room_found : (s : State) (now : ℕ) (wanted : ImageWanted) → HasRoom s now wanted →
     has_room_for_setup (at_moment s now) wanted ≡ true
 unfolding at_moment has_number is_within_pairs
 room_found s now wanted room =
-    all_three _ _ _ (lt-ltb (length (filter is_remote s.streams.sources)) 512 room.images)
+    all_four _ _ _ _ (lt-ltb (length (filter is_remote s.streams.sources)) 512 room.images)
+    (lt-ltb (length (filter (is_from wanted.address) s.streams.sources)) s.settings.images_per_source room.source)
     (lt-ltb s.last_number 18446744073709551615 room.number)
     (le-leb (length (prospects_of (with_image (at_moment s now) wanted))) 4096 room.pairs)
 

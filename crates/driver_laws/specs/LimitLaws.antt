@@ -4,11 +4,12 @@ use Rattle.driver_core.specs.Counting.{has_room_for_counter}
 use Rattle.driver_core.specs.Pairs.{pairs_of, prospects_of}
 use Rattle.driver_core.specs.Publishing.{has_room_for_publication, with_publication}
 use Rattle.driver_core.specs.Reloading.{has_room_for_policy, in_force}
-use Rattle.driver_core.specs.SettingUp.{has_room_for_setup, with_image}
+use Rattle.driver_core.specs.SettingUp.{has_room_for_setup, is_from, with_image}
 use Rattle.driver_core.specs.State.{State}
 use Rattle.driver_core.specs.Subscribing.{has_room_for_subscription, with_subscription}
 use Rattle.driver_laws.specs.DestinationLaws.{HasPublication}
 use Rattle.driver_laws.specs.Events.{AfterAnyEvents}
+use Rattle.channel_uri.specs.declared.address.Address.{Address}
 use Rattle.channel_uri.specs.Channel.{Shape}
 use Rattle.client_registry.specs.Clients.{has_room}
 use Rattle.destinations.specs.Destinations.{has_room as has_room_in, of}
@@ -24,7 +25,8 @@ use Rattle.stream_registry.specs.Origins.{is_published, is_remote}
 -- ---- none is passed
 
 -- at most 64 clients, 256 publications and 512 images, 1,024 registrations with publications, 512 subscriptions, 1,024
--- counters and 4,096 pairs, those counted that are not allowed yet and will be at a later moment
+-- counters and 4,096 pairs, those counted that are not allowed yet and will be at a later moment; and of each source address
+-- at most as many images as the settings say
 pub record IsWithinLimits (s : State) : Type 0 where
   pub clients : length s.clients.rows ≤ 64
   pub sources : AreFew s.streams.sources
@@ -33,6 +35,7 @@ pub record IsWithinLimits (s : State) : Type 0 where
   pub counters : length s.counters ≤ 1024
   pub pairs : length (pairs_of s) ≤ 4096
   pub prospects : length (prospects_of s) ≤ 4096
+  pub images : (from : Address) → length (filter (is_from from) s.streams.sources) ≤ s.settings.images_per_source
 
 abbrev pub LimitsAreKept : Type 0
 LimitsAreKept = AfterAnyEvents IsWithinLimits
@@ -63,6 +66,7 @@ pub record HasRoomBelow (s : State) : Type 0 where
       (1024 ≤ length s.streams.registrations) ⊎ (256 ≤ length (filter is_published s.streams.sources))
   pub image :
       (wanted : ImageWanted) → IsLeft s.last_number → length (filter is_remote s.streams.sources) < 512 →
+      length (filter (is_from wanted.address) s.streams.sources) < s.settings.images_per_source →
       length (prospects_of (with_image s wanted)) ≤ 4096 → has_room_for_setup s wanted ≡ true
   pub counter : IsLeft s.last_number → length s.counters < 1024 → has_room_for_counter s ≡ true
   pub policy :

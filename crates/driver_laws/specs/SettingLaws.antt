@@ -9,7 +9,7 @@ use Rattle.driver_core.specs.declared.setup_fault.SetupFault.TheVariants.{BadSet
 use Rattle.driver_core.specs.Conduct.{conduct}
 use Rattle.driver_core.specs.Pairs.{prospects_of}
 use Rattle.driver_core.specs.Renewal.{images_decided, images_told}
-use Rattle.driver_core.specs.SettingUp.{new_image, setting_of, wanted_by, with_image}
+use Rattle.driver_core.specs.SettingUp.{is_from, new_image, setting_of, wanted_by, with_image}
 use Rattle.driver_core.specs.State.{State, at_moment, ruled}
 use Rattle.driver_core.specs.Unread.{without_unread}
 use Rattle.driver_core.specs.Verdicts.{IsByPolicy, verdict_on}
@@ -80,9 +80,11 @@ pub record IsDeniedToAll (s : State) (now : ℕ) (wanted : ImageWanted) (verdict
       fits (new_image (at_moment s now) wanted) other ≡ true → principal_at s.clients.rows other.client ≡ Some of →
       (verdict_on s (image_question of other)).allow ≡ false
 
--- there are fewer than 512 images, a number is left, and at most 4,096 pairs would be there with it, at this moment or a later one
+-- there are fewer than 512 images, and fewer of its source address than the settings say, a number is left, and at most 4,096
+-- pairs would be there with it, at this moment or a later one
 pub record HasRoom (s : State) (now : ℕ) (wanted : ImageWanted) : Type 0 where
   pub images : length (filter is_remote s.streams.sources) < 512
+  pub source : length (filter (is_from wanted.address) s.streams.sources) < s.settings.images_per_source
   pub number : IsLeft s.last_number
   pub pairs : length (prospects_of (with_image (at_moment s now) wanted)) ≤ 4096
 

@@ -382,14 +382,16 @@ pub fn numbers_are_never_drawn_again()
 {}
 
 /// In every registry there are at most 64 clients, 256 publications and 512 images, 1,024 registrations with publications,
-/// 512 subscriptions, 1,024 counters and 4,096 pairs, those counted that the policy allows at a later moment.
+/// 512 subscriptions, 1,024 counters and 4,096 pairs, those counted that the policy allows at a later moment; and of one
+/// source address at most as many images as the settings say.
 pub fn limits_are_kept()
     ensures { LimitsAreKept }
 {}
 
 /// And none of these limits is kept too soon: there is room for one more, or for a policy, where the lists concerned are
-/// below theirs (for a publication those of registrations and of publications, for a destination that of its publication),
-/// the pairs would stay within theirs at this moment and later, and a number is left.
+/// below theirs (for a publication those of registrations and of publications, for a destination that of its publication,
+/// for an image also the images of its source address), the pairs would stay within theirs at this moment and later, and a
+/// number is left.
 pub fn room_is_left_below_the_limits()
     ensures { RoomIsLeftBelowTheLimits }
 {}

@@ -19,6 +19,7 @@ const DEFAULT: Settings = Settings {
     term_length: 65_536,
     mtu: 1_408,
     arena_pages: 4_096,
+    images_per_source: 512,
     first_session: 1,
     initial_term: 0,
     receiver_id: 1,
@@ -65,7 +66,7 @@ type Row = (
     bool,
 );
 
-static VALUES: [Row; 10] = [
+static VALUES: [Row; 11] = [
     (
         &[
             "client-liveness",
@@ -123,6 +124,12 @@ static VALUES: [Row; 10] = [
         &["arena-pages"],
         &["1", "65536", "001"],
         &["0", "65537", "-1", "18446744073709551617"],
+        true,
+    ),
+    (
+        &["images-per-source"],
+        &["1", "512", "008"],
+        &["0", "513", "-1", "+8", "18446744073709551617"],
         true,
     ),
     (
@@ -197,7 +204,7 @@ fn keys_take_their_values(rt: HostRuntime) {
 }
 
 /// A key, its value, the settings where nothing else is chosen, and whether they are so.
-static CHOSEN: [(&str, &str, Settings, bool); 21] = [
+static CHOSEN: [(&str, &str, Settings, bool); 23] = [
     (
         "client-liveness",
         "3",
@@ -324,6 +331,24 @@ static CHOSEN: [(&str, &str, Settings, bool); 21] = [
             ..DEFAULT
         },
         true,
+    ),
+    (
+        "images-per-source",
+        "1",
+        Settings {
+            images_per_source: 1,
+            ..DEFAULT
+        },
+        true,
+    ),
+    (
+        "images-per-source",
+        "8",
+        Settings {
+            images_per_source: 7,
+            ..DEFAULT
+        },
+        false,
     ),
     (
         "first-session",

@@ -1,5 +1,5 @@
 -- The settings that a script chooses are such as a driver may be opened with.
-use Rattle.std.proofs.Common.{◌≡◌, ℕ, ◌<◌, ◌≤◌, List, Option, Some, None, nat_le, refl, arith}
+use Rattle.std.proofs.Common.{◌≡◌, ℕ, ◌<◌, ◌≤◌, List, Option, Some, None, nat_le, if◌then◌else◌, refl, arith}
 use Rattle.std.specs.List.{list_any}
 use Rattle.std.specs.Str.{bytes_eq}
 use Rattle.std.proofs.lemmas.Bool.{cond_both, leb-true}
@@ -13,10 +13,10 @@ use Rattle.driver_core.proofs.SizeLemmas.{Holds, IsMtu, IsTermLength, mtu_sound,
 use Rattle.script_lines.specs.declared.settings.Duration.{Duration as DurationKey}
 use Rattle.script_lines.specs.declared.settings.Duration.TheVariants.{ClientLiveness, ImageLiveness, Linger, ConnectionTimeout, DestinationTimeout, ResendLinger, NakDelay, NakRepeat, SetupInterval, HeartbeatInterval, StatusInterval}
 use Rattle.script_lines.specs.declared.settings.Key.{Key}
-use Rattle.script_lines.specs.declared.settings.Key.TheVariants.{Duration, TermLength, Mtu, ArenaPages, FirstSession, InitialTerm, ReceiverId, SendAddress}
+use Rattle.script_lines.specs.declared.settings.Key.TheVariants.{Duration, TermLength, Mtu, ArenaPages, ImagesPerSource, FirstSession, InitialTerm, ReceiverId, SendAddress}
 use Rattle.script_lines.specs.Hex.{◌>>=◌}
 use Rattle.script_lines.specs.Number.{number_of}
-use Rattle.script_lines.specs.Settings.{Chosen, chosen, duration_in, key_of, mtu_in, pages_of, term_length_in, with_duration, with_value}
+use Rattle.script_lines.specs.Settings.{Chosen, chosen, duration_in, images_of, key_of, mtu_in, pages_of, term_length_in, with_duration, with_value}
 
 -- ---- what is read
 
@@ -30,18 +30,31 @@ holds_then : {A B : Type 0} (Q : A → Type 0) (P : B → Type 0) (read : Option
 holds_then Q P None next held each = tt
 holds_then Q P (Some x) next held each = each x held
 
+-- from 1 to a limit
+abbrev IsUpTo : ℕ → ℕ → Type 0
+IsUpTo limit n = (0 < n) × (n ≤ limit)
+
 abbrev ArePages : ℕ → Type 0
-ArePages n = (0 < n) × (n ≤ 65536)
+ArePages n = IsUpTo 65536 n
+
+abbrev AreImages : ℕ → Type 0
+AreImages n = IsUpTo 512 n
+
+up_to : (limit n : ℕ) →
+    Holds (IsUpTo limit) (if nat_le 1 n then if nat_le n limit then Some n else None else None)
+up_to limit n =
+    cond_both (nat_le 1 n) _ _ (Holds (IsUpTo limit))
+    (λ low.
+    cond_both (nat_le n limit) _ _ (Holds (IsUpTo limit))
+    (λ high. (leb-true 1 n low, leb-true n limit high))
+    (λ e. tt))
+    (λ e. tt)
 
 pages_sound : (value : List ℕ) → Holds ArePages (pages_of value)
-pages_sound value =
-    holds_next ArePages (number_of value) _ (λ pages.
-    cond_both (nat_le 1 pages) _ _ (Holds ArePages)
-    (λ low.
-    cond_both (nat_le pages 65536) _ _ (Holds ArePages)
-    (λ high. (leb-true 1 pages low, leb-true pages 65536 high))
-    (λ e. tt))
-    (λ e. tt))
+pages_sound value = holds_next ArePages (number_of value) _ (up_to 65536)
+
+images_sound : (value : List ℕ) → Holds AreImages (images_of value)
+images_sound value = holds_next AreImages (number_of value) _ (up_to 512)
 
 -- ---- the settings
 
@@ -57,12 +70,14 @@ sound_default = record {
   };
   some_pages = omega arith;
   few_pages = omega arith;
+  some_images = omega arith;
+  few_images = omega arith;
 }
 
--- only the sizes and the pages count
+-- only the sizes, the pages and the images count
 sound_by : (settings : Settings) → IsTermLength settings.term_length → IsMtu settings.mtu →
-    ArePages settings.arena_pages → AreSettings settings
-sound_by settings term mtu pages = record {
+    ArePages settings.arena_pages → AreImages settings.images_per_source → AreSettings settings
+sound_by settings term mtu pages images = record {
   sizes = record {
     term_low = term.0;
     term_high = term.1;
@@ -73,6 +88,8 @@ sound_by settings term mtu pages = record {
   };
   some_pages = pages.0;
   few_pages = pages.1;
+  some_images = images.0;
+  few_images = images.1;
 }
 
 term_of : (settings : Settings) → AreSettings settings → IsTermLength settings.term_length
@@ -84,26 +101,30 @@ mtu_of settings sound = (sound.sizes.mtu_low, sound.sizes.mtu_high, sound.sizes.
 pages_in : (settings : Settings) → AreSettings settings → ArePages settings.arena_pages
 pages_in settings sound = (sound.some_pages, sound.few_pages)
 
+images_in : (settings : Settings) → AreSettings settings → AreImages settings.images_per_source
+images_in settings sound = (sound.some_images, sound.few_images)
+
 -- another setting may be what it likes
 sound_like : (settings new : Settings) → AreSettings settings → new.term_length ≡ settings.term_length →
-    new.mtu ≡ settings.mtu → new.arena_pages ≡ settings.arena_pages → AreSettings new
-sound_like settings new sound term mtu pages =
+    new.mtu ≡ settings.mtu → new.arena_pages ≡ settings.arena_pages →
+    new.images_per_source ≡ settings.images_per_source → AreSettings new
+sound_like settings new sound term mtu pages images =
     sound_by new (rw term (term_of settings sound)) (rw mtu (mtu_of settings sound))
-    (rw pages (pages_in settings sound))
+    (rw pages (pages_in settings sound)) (rw images (images_in settings sound))
 
 duration_sound : (settings : Settings) (key : DurationKey) (duration : ℕ) → AreSettings settings →
     AreSettings (with_duration settings key duration)
-duration_sound settings ClientLiveness duration sound = sound_like settings _ sound refl refl refl
-duration_sound settings ImageLiveness duration sound = sound_like settings _ sound refl refl refl
-duration_sound settings Linger duration sound = sound_like settings _ sound refl refl refl
-duration_sound settings ConnectionTimeout duration sound = sound_like settings _ sound refl refl refl
-duration_sound settings DestinationTimeout duration sound = sound_like settings _ sound refl refl refl
-duration_sound settings ResendLinger duration sound = sound_like settings _ sound refl refl refl
-duration_sound settings NakDelay duration sound = sound_like settings _ sound refl refl refl
-duration_sound settings NakRepeat duration sound = sound_like settings _ sound refl refl refl
-duration_sound settings SetupInterval duration sound = sound_like settings _ sound refl refl refl
-duration_sound settings HeartbeatInterval duration sound = sound_like settings _ sound refl refl refl
-duration_sound settings StatusInterval duration sound = sound_like settings _ sound refl refl refl
+duration_sound settings ClientLiveness duration sound = sound_like settings _ sound refl refl refl refl
+duration_sound settings ImageLiveness duration sound = sound_like settings _ sound refl refl refl refl
+duration_sound settings Linger duration sound = sound_like settings _ sound refl refl refl refl
+duration_sound settings ConnectionTimeout duration sound = sound_like settings _ sound refl refl refl refl
+duration_sound settings DestinationTimeout duration sound = sound_like settings _ sound refl refl refl refl
+duration_sound settings ResendLinger duration sound = sound_like settings _ sound refl refl refl refl
+duration_sound settings NakDelay duration sound = sound_like settings _ sound refl refl refl refl
+duration_sound settings NakRepeat duration sound = sound_like settings _ sound refl refl refl refl
+duration_sound settings SetupInterval duration sound = sound_like settings _ sound refl refl refl refl
+duration_sound settings HeartbeatInterval duration sound = sound_like settings _ sound refl refl refl refl
+duration_sound settings StatusInterval duration sound = sound_like settings _ sound refl refl refl refl
 
 value_sound : (settings : Settings) (key : Key) (value : List ℕ) → AreSettings settings →
     Holds AreSettings (with_value settings key value)
@@ -112,26 +133,29 @@ value_sound settings (Duration key) value sound =
 value_sound settings TermLength value sound =
     holds_then IsTermLength AreSettings (term_length_in value) _
     (holds_next IsTermLength (number_of value) term_length_from term_length_sound)
-    (λ size is. sound_by _ is (mtu_of settings sound) (pages_in settings sound))
+    (λ size is. sound_by _ is (mtu_of settings sound) (pages_in settings sound) (images_in settings sound))
 value_sound settings Mtu value sound =
     holds_then IsMtu AreSettings (mtu_in value) _
     (holds_next IsMtu (number_of value) mtu_from mtu_sound)
-    (λ size is. sound_by _ (term_of settings sound) is (pages_in settings sound))
+    (λ size is. sound_by _ (term_of settings sound) is (pages_in settings sound) (images_in settings sound))
 value_sound settings ArenaPages value sound =
     holds_then ArePages AreSettings (pages_of value) _ (pages_sound value)
-    (λ pages is. sound_by _ (term_of settings sound) (mtu_of settings sound) is)
+    (λ pages is. sound_by _ (term_of settings sound) (mtu_of settings sound) is (images_in settings sound))
+value_sound settings ImagesPerSource value sound =
+    holds_then AreImages AreSettings (images_of value) _ (images_sound value)
+    (λ images is. sound_by _ (term_of settings sound) (mtu_of settings sound) (pages_in settings sound) is)
 value_sound settings FirstSession value sound =
     holds_next AreSettings (session_id_of value) _
-    (λ id. sound_like settings _ sound refl refl refl)
+    (λ id. sound_like settings _ sound refl refl refl refl)
 value_sound settings InitialTerm value sound =
     holds_next AreSettings (session_id_of value) _
-    (λ id. sound_like settings _ sound refl refl refl)
+    (λ id. sound_like settings _ sound refl refl refl refl)
 value_sound settings ReceiverId value sound =
     holds_next AreSettings (number_of value) _
-    (λ id. sound_like settings _ sound refl refl refl)
+    (λ id. sound_like settings _ sound refl refl refl refl)
 value_sound settings SendAddress value sound =
     holds_next AreSettings (address_of value) _
-    (λ address. sound_like settings _ sound refl refl refl)
+    (λ address. sound_like settings _ sound refl refl refl refl)
 
 -- one choice more
 chosen_holds : (choices : Chosen) (name value : List ℕ) → AreSettings choices.settings →

@@ -10,7 +10,7 @@ use Rattle.driver_core.specs.Settings.{default_settings}
 use Rattle.script_lines.specs.declared.settings.Duration.{Duration as DurationKey}
 use Rattle.script_lines.specs.declared.settings.Duration.TheVariants.{ClientLiveness, ImageLiveness, Linger, ConnectionTimeout, DestinationTimeout, ResendLinger, NakDelay, NakRepeat, SetupInterval, HeartbeatInterval, StatusInterval}
 use Rattle.script_lines.specs.declared.settings.Key.{Key}
-use Rattle.script_lines.specs.declared.settings.Key.TheVariants.{Duration, TermLength, Mtu, ArenaPages, FirstSession, InitialTerm, ReceiverId, SendAddress}
+use Rattle.script_lines.specs.declared.settings.Key.TheVariants.{Duration, TermLength, Mtu, ArenaPages, ImagesPerSource, FirstSession, InitialTerm, ReceiverId, SendAddress}
 use Rattle.script_lines.specs.Hex.{◌>>=◌}
 use Rattle.script_lines.specs.Number.{number_of}
 
@@ -31,6 +31,7 @@ keys =
     ∷ (codes "term-length", TermLength)
     ∷ (codes "mtu", Mtu)
     ∷ (codes "arena-pages", ArenaPages)
+    ∷ (codes "images-per-source", ImagesPerSource)
     ∷ (codes "first-session", FirstSession)
     ∷ (codes "initial-term", InitialTerm)
     ∷ (codes "receiver-id", ReceiverId)
@@ -61,6 +62,11 @@ abbrev pub pages_of : List ℕ → Option ℕ
 pages_of value = number_of value >>= λ pages.
     if nat_le 1 pages then if nat_le pages 65536 then Some pages else None else None
 
+-- from 1 to 512 images
+abbrev pub images_of : List ℕ → Option ℕ
+images_of value = number_of value >>= λ images.
+    if nat_le 1 images then if nat_le images 512 then Some images else None else None
+
 abbrev pub with_duration : Settings → DurationKey → ℕ → Settings
 with_duration settings ClientLiveness duration = record settings { client_liveness = duration }
 with_duration settings ImageLiveness duration = record settings { image_liveness = duration }
@@ -80,6 +86,7 @@ with_value settings (Duration key) value = duration_in value >>= λ duration. So
 with_value settings TermLength value = term_length_in value >>= λ size. Some (record settings { term_length = size })
 with_value settings Mtu value = mtu_in value >>= λ size. Some (record settings { mtu = size })
 with_value settings ArenaPages value = pages_of value >>= λ pages. Some (record settings { arena_pages = pages })
+with_value settings ImagesPerSource value = images_of value >>= λ images. Some (record settings { images_per_source = images })
 with_value settings FirstSession value = session_id_of value >>= λ id. Some (record settings { first_session = id })
 with_value settings InitialTerm value = session_id_of value >>= λ id. Some (record settings { initial_term = id })
 with_value settings ReceiverId value = number_of value >>= λ id. Some (record settings { receiver_id = id })

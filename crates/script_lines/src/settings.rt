@@ -1,4 +1,4 @@
-ghost use Rattle.script_lines.specs.Settings.{Chooses, chosen, key_among, key_of, no_choices, duration_in, pages_of, mtu_in, term_length_in, with_duration, with_value};
+ghost use Rattle.script_lines.specs.Settings.{Chooses, chosen, key_among, key_of, no_choices, duration_in, images_of, pages_of, mtu_in, term_length_in, with_duration, with_value};
 ghost use Rattle.std.specs.List.{list_any};
 ghost use Rattle.std.specs.Prelude.{◌≡◌, map, IfOk, OnErr};
 ghost use Rattle.std.specs.Str.{bytes_eq};
@@ -36,6 +36,7 @@ pub enum Key {
     TermLength,
     Mtu,
     ArenaPages,
+    ImagesPerSource,
     FirstSession,
     InitialTerm,
     ReceiverId,
@@ -103,6 +104,7 @@ fn key_of(name: &str) -> Option<Key>
         ("term-length", Key::TermLength),
         ("mtu", Key::Mtu),
         ("arena-pages", Key::ArenaPages),
+        ("images-per-source", Key::ImagesPerSource),
         ("first-session", Key::FirstSession),
         ("initial-term", Key::InitialTerm),
         ("receiver-id", Key::ReceiverId),
@@ -151,6 +153,20 @@ fn pages_of(value: &str) -> Option<u32>
     Some(pages as u32)
 }
 
+/// How many images one source address may have open.
+fn images_of(value: &str) -> Option<u32>
+    ensures { result ≡ images_of value.now }
+{
+    let images = number(value)?;
+    if images < 1 {
+        return None;
+    }
+    if images > 512 {
+        return None;
+    }
+    Some(images as u32)
+}
+
 /// These settings, with another duration.
 fn with_duration(settings: Settings, key: Duration, nanoseconds: u64) -> Settings
     ensures { result ≡ with_duration settings key nanoseconds }
@@ -182,6 +198,7 @@ fn with_value(settings: Settings, key: Key, value: &str) -> Option<Settings>
         Key::TermLength => settings.term_length = term_length_in(value)?,
         Key::Mtu => settings.mtu = mtu_in(value)?,
         Key::ArenaPages => settings.arena_pages = pages_of(value)?,
+        Key::ImagesPerSource => settings.images_per_source = images_of(value)?,
         Key::FirstSession => settings.first_session = session_id_of(value)?,
         Key::InitialTerm => settings.initial_term = session_id_of(value)?,
         Key::ReceiverId => settings.receiver_id = number(value)?,

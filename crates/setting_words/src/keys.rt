@@ -15,7 +15,7 @@ pub enum Kind {
 }
 
 /// The settings, each with what its value is and what is wanted of it.
-pub const KEYS: [(&str, Kind, &str); 18] = [
+pub const KEYS: [(&str, Kind, &str); 19] = [
     ("client-liveness", Kind::Time, TIME),
     ("image-liveness", Kind::Time, TIME),
     ("linger", Kind::Duration, DURATION),
@@ -41,6 +41,11 @@ pub const KEYS: [(&str, Kind, &str); 18] = [
         "arena-pages",
         Kind::Number,
         "wanted a number from 1 to 65536",
+    ),
+    (
+        "images-per-source",
+        Kind::Number,
+        "wanted a number from 1 to 512",
     ),
     ("first-session", Kind::Number, ID),
     ("initial-term", Kind::Number, ID),
