@@ -36,9 +36,9 @@ use Rattle.term_log.specs.declared.ident.Ident.{Ident}
 use Rattle.term_log.specs.Frames.{Frame}
 use Rattle.term_log.specs.Ident.{is_udp}
 use Rattle.term_log.specs.Whole.{Whole}
-use Rattle.two_worlds.specs.Drivers.{Opening}
-use Rattle.two_worlds.specs.Sent.{IsOnly}
-use Rattle.two_worlds.proofs.SentLemmas.{IsAsked, IsOverUdp, OverUdp}
+use Rattle.two_drivers.specs.Drivers.{Opening}
+use Rattle.two_drivers.specs.Sent.{IsOnly}
+use Rattle.two_drivers.proofs.SentLemmas.{IsAsked, IsOverUdp, OverUdp}
 
 -- ---- what is found
 

@@ -18,7 +18,7 @@ use Rattle.driver_steps.specs.Moves.{WholeLog}
 use Rattle.driver_steps.specs.Runs.{Reading, end_of}
 use Rattle.driver_steps.proofs.EndLemmas.{runs_take}
 use Rattle.driver_steps.proofs.FollowLemmas.{Follows}
-use Rattle.mirrored_streams.specs.Sending.{IsFit}
+use Rattle.two_drivers.specs.Sending.{IsFit}
 use Rattle.policy_core.specs.RuleList.{Rules}
 use Rattle.stream_registry.specs.Origins.{is_published, is_published_by}
 use Rattle.stream_registry.specs.declared.row.Origin.{Origin}
@@ -28,7 +28,7 @@ use Rattle.term_log.specs.declared.ident.Ident.{Ident}
 use Rattle.term_log.specs.Ident.{IsIdent}
 use Rattle.term_log.specs.Whole.{Whole}
 use Rattle.two_drivers.proofs.AskedLemmas.{row_made}
-use Rattle.two_worlds.specs.Sent.{IsFitLog}
+use Rattle.two_drivers.specs.Sent.{IsFitLog}
 
 -- whole pages are whole words
 whole_words : (n : ℕ) → n % 4096 ≡ 0 → n % 32 ≡ 0

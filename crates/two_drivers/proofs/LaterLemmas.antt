@@ -40,7 +40,7 @@ use Rattle.stream_registry.specs.declared.pairs.Pair.{Pair}
 use Rattle.term_log.specs.Frames.{Frame}
 use Rattle.term_log.specs.Log.{greatest_message}
 use Rattle.term_log.specs.Whole.{Whole, is_connected, offered, polled as term_polled, polled_from, rejoined as term_rejoined}
-use Rattle.two_worlds.proofs.PollingLemmas.{filtered_at, first_at, rejoined_in}
+use Rattle.two_drivers.proofs.PollingLemmas.{filtered_at, first_at, rejoined_in}
 
 -- ---- a log later on
 

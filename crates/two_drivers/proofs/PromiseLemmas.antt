@@ -6,15 +6,15 @@ use Rattle.driver_steps.specs.declared.answer.Answer.{Answer}
 use Rattle.driver_steps.specs.Ends.{RunEnd}
 use Rattle.driver_steps.specs.Moves.{WholeLog}
 use Rattle.driver_steps.proofs.LiveLemmas.{found_log}
-use Rattle.mirrored_streams.specs.Line.{IsLine, line_of}
-use Rattle.mirrored_streams.proofs.ReadingLemmas.{line_is}
+use Rattle.two_drivers.specs.Line.{IsLine, line_of}
+use Rattle.two_drivers.proofs.ReadingLemmas.{line_is}
 use Rattle.term_log.specs.declared.ident.Ident.{Ident}
 use Rattle.term_log.specs.Frames.{Frame}
 use Rattle.two_drivers.specs.Streams.{IsNamed, IsRead, IsReadIn, PollsGiveARunOfThePublication}
 use Rattle.two_drivers.proofs.StreamLemmas.{images_named}
-use Rattle.two_worlds.specs.Drivers.{ArePairAnswers, IsOnlyPublication, IsThere, Opening, PairEnd, DriversStep, opening_pair, pair_after, pair_end}
-use Rattle.two_worlds.specs.Polling.{Reads}
-use Rattle.two_worlds.proofs.DriversLemmas.{Holds, held_run, held_step, opening_holds, second_gives}
+use Rattle.two_drivers.specs.Drivers.{ArePairAnswers, IsOnlyPublication, IsThere, Opening, PairEnd, DriversStep, opening_pair, pair_after, pair_end}
+use Rattle.two_drivers.specs.Polling.{Reads}
+use Rattle.two_drivers.proofs.DriversLemmas.{Holds, held_run, held_step, opening_holds, second_gives}
 
 -- what the second's logs are named then
 pub named_second : (i : Ident) (all : List Frame) (opening : Opening) (e : PairEnd) → AreSettings opening.settings → Holds i all opening e →

@@ -28,9 +28,9 @@ use Rattle.driver_world.specs.declared.reading.Reading.{Reading}
 use Rattle.driver_world.specs.Ends.{RunEnd as WorldEnd, Moved, after, after_by, bad, end_of as world_end_of, moved_as, opening_end as world_opening}
 use Rattle.driver_world.specs.Views.{Past, actor_of, is_out, newest_of, registry_at, seat_of, view_or}
 use Rattle.driver_world.proofs.RunLemmas.{IsNewest, goes_as, is_drivers_run}
-use Rattle.mirrored_streams.specs.Line.{IsLine, line_of}
-use Rattle.mirrored_streams.specs.Sending.{IsFit, IsWell}
-use Rattle.mirrored_streams.proofs.ReadingLemmas.{line_is}
+use Rattle.two_drivers.specs.Line.{IsLine, line_of}
+use Rattle.two_drivers.specs.Sending.{IsFit, IsWell}
+use Rattle.two_drivers.proofs.ReadingLemmas.{line_is}
 use Rattle.term_log.specs.declared.ident.Ident.{Ident}
 use Rattle.term_log.specs.Frames.{Frame}
 use Rattle.term_log.specs.Whole.{Whole}
@@ -41,15 +41,15 @@ use Rattle.two_drivers.proofs.LaterLemmas.{IsLater, IsMore, left_later, more_lat
 use Rattle.two_drivers.proofs.NumberLemmas.{IsPast, are_found, drawn_at, left_draws, past_on}
 use Rattle.two_drivers.proofs.PairLemmas.{pair_read}
 use Rattle.two_drivers.proofs.PromiseLemmas.{named_second, reads_of}
-use Rattle.two_worlds.specs.Drivers.{Opening, PairEnd, opening_pair}
-use Rattle.two_worlds.specs.Sent.{Datagram, IsFitLog, IsPart}
-use Rattle.two_worlds.specs.declared.pair_step.PairStep.{PairStep}
-use Rattle.two_worlds.specs.declared.pair_step.PairStep.TheVariants.{A, B, Deliver}
-use Rattle.two_worlds.specs.Worlds.{AreAnswersOfBoth, AreFresh, AtEach, IsAnswerToBoth, IsFresh, ReadsThere, TwoEnds, after_both, after_second, end_of_both, step_of_second}
-use Rattle.two_worlds.proofs.DriversLemmas.{Holds, opening_holds, reached_follows}
-use Rattle.two_worlds.proofs.GivenLemmas.{answers_push, end_push}
-use Rattle.two_worlds.proofs.SentLemmas.{IsAsked, IsOverUdp, OverUdp, WellLog, opening_well, step_sends, step_well}
-use Rattle.two_worlds.proofs.WorldLemmas.{AreSentGood, IsSeen, SendsGood, an_older, both_held, drivers_of, run_held, stayed, the_newest, went, went_sends, world_sends, world_went}
+use Rattle.two_drivers.specs.Drivers.{Opening, PairEnd, opening_pair}
+use Rattle.two_drivers.specs.Sent.{Datagram, IsFitLog, IsPart}
+use Rattle.two_drivers.specs.declared.pair_step.PairStep.{PairStep}
+use Rattle.two_drivers.specs.declared.pair_step.PairStep.TheVariants.{A, B, Deliver}
+use Rattle.two_drivers.specs.Worlds.{AreAnswersOfBoth, AreFresh, AtEach, IsAnswerToBoth, IsFresh, ReadsThere, TwoEnds, after_both, after_second, end_of_both, step_of_second}
+use Rattle.two_drivers.proofs.DriversLemmas.{Holds, opening_holds, reached_follows}
+use Rattle.two_drivers.proofs.GivenLemmas.{answers_push, end_push}
+use Rattle.two_drivers.proofs.SentLemmas.{IsAsked, IsOverUdp, OverUdp, WellLog, opening_well, step_sends, step_well}
+use Rattle.two_drivers.proofs.WorldLemmas.{AreSentGood, IsSeen, SendsGood, an_older, both_held, drivers_of, run_held, stayed, the_newest, went, went_sends, world_sends, world_went}
 
 -- ---- ends of a driver, one behind the other
 
@@ -238,7 +238,7 @@ ends_only opening i all n e (one ∷ later) sound fit end next is sole =
 abbrev IsSoundWhole : Whole → Type 0
 IsSoundWhole w = IsFit w.ident × IsWell w
 
-log_sound : (a : AnyWhole) (last : Whole) → Rattle.two_worlds.proofs.SentLemmas.WellIf a → IsFitLog a → frames_in a ≡ Some last → IsSoundWhole last
+log_sound : (a : AnyWhole) (last : Whole) → Rattle.two_drivers.proofs.SentLemmas.WellIf a → IsFitLog a → frames_in a ≡ Some last → IsSoundWhole last
 log_sound (whole w) last well fit is = let same : w ≡ last = cc is in subst IsSoundWhole same (fit, well fit)
 log_sound (rebuilt r) last well fit is = absurd (cc is)
 

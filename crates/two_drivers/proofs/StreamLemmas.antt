@@ -36,12 +36,12 @@ use Rattle.frame_codec.specs.Join.{◌>>?◌, is_offset, is_recent, join_of, mtu
 use Rattle.frame_codec.specs.Position.{position_of}
 use Rattle.image_log.specs.Frame.{Frame as Kept}
 use Rattle.image_log.specs.declared.ident.Ident.{Ident as StreamIdent}
-use Rattle.mirrored_streams.specs.Line.{stream_of}
+use Rattle.two_drivers.specs.Line.{stream_of}
 use Rattle.policy_core.specs.RuleList.{Rules}
 use Rattle.stream_registry.specs.declared.row.Source.{Source}
 use Rattle.term_log.specs.declared.ident.Ident.{Ident}
 use Rattle.two_drivers.specs.Streams.{ImagesAreOfTheStream, IsNamed}
-use Rattle.two_worlds.specs.Given.{AreGood, IsGood, IsGoodEvent, IsGoodSetup, IsGoodStep}
+use Rattle.two_drivers.specs.Given.{AreGood, IsGood, IsGoodEvent, IsGoodSetup, IsGoodStep}
 
 -- ---- what a log is made for
 

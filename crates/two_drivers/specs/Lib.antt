@@ -1,2 +1,13 @@
+pub mod Drivers
+pub mod Given
+pub mod Line
+pub mod LineLaws
+pub mod Memory
+pub mod Mirror
+pub mod Polling
 pub mod Publication
+pub mod Sending
+pub mod Sent
+pub mod Standing
 pub mod Streams
+pub mod Worlds

@@ -9,16 +9,16 @@ use Rattle.driver_laws.specs.WidthLaws.{AreSettingsOf32Bits}
 use Rattle.driver_steps.specs.declared.answer.Answer.{Answer}
 use Rattle.driver_steps.specs.Ends.{RunEnd, log_at}
 use Rattle.driver_steps.specs.Moves.{WholeLog}
-use Rattle.mirrored_streams.specs.Line.{IsRunOf}
+use Rattle.two_drivers.specs.Line.{IsRunOf}
 use Rattle.stream_registry.specs.Origins.{is_remote}
 use Rattle.stream_registry.specs.declared.row.Source.{Source}
 use Rattle.term_log.specs.declared.ident.Ident.{Ident}
 use Rattle.term_log.specs.Ident.{is_udp}
 use Rattle.term_log.specs.Whole.{Whole}
-use Rattle.two_worlds.specs.Drivers.{Opening}
-use Rattle.two_worlds.specs.Standing.{AnswerBoth, HeldBoth, StandForEnds}
-use Rattle.two_worlds.specs.declared.pair_step.PairStep.{PairStep}
-use Rattle.two_worlds.specs.Worlds.{AreAnswersOfBoth, AreFresh, AtEach, TwoEnds, after_both, end_of_both, polled_of_all}
+use Rattle.two_drivers.specs.Drivers.{Opening}
+use Rattle.two_drivers.specs.Standing.{AnswerBoth, HeldBoth, StandForEnds}
+use Rattle.two_drivers.specs.declared.pair_step.PairStep.{PairStep}
+use Rattle.two_drivers.specs.Worlds.{AreAnswersOfBoth, AreFresh, AtEach, TwoEnds, after_both, end_of_both, polled_of_all}
 
 -- ---- a publication by its number
 

@@ -11,12 +11,12 @@ use Rattle.driver_steps.specs.Runs.{Reading, AreAnswers, end_of}
 use Rattle.image_log.specs.Frame.{Frame as Kept}
 use Rattle.image_log.specs.Rebuilt.{Rebuilt}
 use Rattle.log_pairs.specs.Pairs.{position_of}
-use Rattle.mirrored_streams.specs.Line.{IsRunOf, stream_of}
+use Rattle.two_drivers.specs.Line.{IsRunOf, stream_of}
 use Rattle.policy_core.specs.RuleList.{Rules}
 use Rattle.term_log.specs.declared.ident.Ident.{Ident}
 use Rattle.term_log.specs.Frames.{Frame, IsRun as AreSound}
-use Rattle.two_worlds.specs.Drivers.{ArePairAnswers, IsOnlyPublication, Opening, PairEnd, DriversStep, given_in, opening_pair, pair_after, pair_end}
-use Rattle.two_worlds.specs.Given.{AreGood}
+use Rattle.two_drivers.specs.Drivers.{ArePairAnswers, IsOnlyPublication, Opening, PairEnd, DriversStep, given_in, opening_pair, pair_after, pair_end}
+use Rattle.two_drivers.specs.Given.{AreGood}
 
 -- of that session and stream, a log has the publication's first term and term length too
 abbrev pub IsNamed : Ident → AnyWhole → Type 0

@@ -1,4 +1,0 @@
-pub mod Line
-pub mod LineLaws
-pub mod Mirror
-pub mod Sending

@@ -1,5 +1,0 @@
-use Rattle.two_worlds.proofs.GivenLemmas.{good_mirrored}
-use Rattle.two_worlds.proofs.good_datagrams_are_mirrored.Goals as goal
-
-pub returns : goal.returns
-returns c = good_mirrored

@@ -1,5 +1,0 @@
-use Rattle.two_worlds.proofs.PollingLemmas.{polls_give}
-use Rattle.two_worlds.proofs.polls_give_a_run.Goals as goal
-
-pub returns : goal.returns
-returns c = polls_give

@@ -1,9 +1,0 @@
-use Rattle.std.proofs.Common.{◌≡◌, ◌++◌, List, drop}
-use Rattle.two_worlds.specs.Drivers.{numbered}
-use Rattle.two_worlds.specs.Sent.{Datagram, all_to}
-use Rattle.two_worlds.proofs.sent.all_to.Given as goal
-
--- the datagram of that number is the one of the number that is left, among the later ones
-abbrev pub invariant-loop-bytes : goal.invariant-loop-bytes
-invariant-loop-bytes l =
-    (later : List Datagram) → numbered l.number (all_to l.to l.datagrams ++ later) ≡ numbered l.left (all_to l.to (drop l.bytes-index l.datagrams) ++ later)

@@ -1,5 +1,0 @@
-use Rattle.two_worlds.proofs.SentLemmas.{sent_good}
-use Rattle.two_worlds.proofs.sent_is_good.Goals as goal
-
-pub returns : goal.returns
-returns c = sent_good

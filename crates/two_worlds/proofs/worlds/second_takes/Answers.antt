@@ -1,9 +1,0 @@
-use Rattle.std.proofs.Common.{sym, ◌∙◌}
-use Rattle.two_worlds.specs.Standing.{held_both}
-use Rattle.two_worlds.proofs.StandingLemmas.{own_serves}
-use Rattle.two_worlds.proofs.worlds.second_takes.Goals as goal
-
-pub returns : goal.returns
-returns c = λ sent.
-    own_serves (held_both c.args.first.now c.args.second.now sent) c.step.new.self c.args.reading.now c.step.result
-    (sym c.is_quiet.ensures ∙ c.if-not-is_quiet.false) c.step.ensures
