@@ -6,7 +6,7 @@ ghost use Rattle.stream_gaps.specs.Sessions.{read_to};
 
 use crate::output::Output;
 use frame_codec::Flags;
-use message_lines::{Form, Joiner, print_message};
+use piped_messages::{Form, Joiner, print_message};
 use program_parts::PartFault;
 use std::alloc::{AllocError, Global};
 use std::io::Write;

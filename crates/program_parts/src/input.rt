@@ -2,7 +2,7 @@
 
 use crate::fault::PartFault;
 use crate::machine::Machine;
-use message_lines::{Cut, LONGEST, first_message};
+use piped_messages::{Cut, LONGEST, first_message};
 use rtrb::{Consumer, Producer, PushError, RingBuffer};
 use std::alloc::{AllocError, Global};
 use std::io::Read;

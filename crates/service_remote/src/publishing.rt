@@ -3,7 +3,7 @@
 use crate::fault::RemoteFault;
 use crate::remote::Remote;
 use command_codec::{AddPublication, Body};
-use message_lines::Cut;
+use piped_messages::Cut;
 use program_parts::{Disk, Input, Machine, SECOND, pause, ticks};
 use service_records::{Answer, Request};
 use std::alloc::Global;

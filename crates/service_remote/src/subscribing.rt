@@ -10,7 +10,7 @@ use crate::fault::RemoteFault;
 use crate::remote::Remote;
 use command_codec::{AddSubscription, Body, Reply};
 use frame_codec::Flags;
-use message_lines::Form;
+use piped_messages::Form;
 use printed_streams::{Image, Images, Inbox};
 use program_parts::{Disk, Machine};
 use service_records::{Answer, Pair, Request};
