@@ -48,6 +48,10 @@ log_of source slot = if slot.source == source then slot.log else None
 abbrev pub without_log : ℕ → SlotLog → SlotLog
 without_log source slot = if slot.source == source then record slot { log = None } else slot
 
+-- it is open there, of that session and stream
+abbrev pub with_log : ℤ → ℤ → HeldLog → SlotLog
+with_log session stream log = record { source = log.source; session = session; stream = stream; log = Some log }
+
 -- how far it reaches
 abbrev pub reach_by : Option HeldLog → Option ℕ
 reach_by None = None

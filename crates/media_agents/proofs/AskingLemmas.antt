@@ -9,11 +9,10 @@ use Rattle.driver_core.specs.declared.event.Event.TheVariants.{Attach, Command, 
 use Rattle.driver_core.specs.State.{State, at_moment}
 use Rattle.driver_steps.specs.Held.{HeldLog}
 use Rattle.log_arena.specs.Homes.{Home}
-use Rattle.log_slots.specs.Counting.{SlotCount}
-use Rattle.log_slots.specs.Slots.{IsSlot, SlotLog, is_silent_by, log_of, reach_by, with_readers, without_log}
+use Rattle.log_slots.specs.Slots.{IsSlot, SlotLog, is_silent_by, log_of, reach_by, with_log, with_readers, without_log}
 use Rattle.media_agents.specs.declared.slots.LogAt.{LogAt}
 use Rattle.media_agents.specs.Acts.{Access, Chain, GoesOn, held}
-use Rattle.media_agents.specs.Asking.{AreSilent, AreSilentAt, Asks, Closes, Gathers, IsHold, Joins, JoinsSome, LeavesIt, Opens, Refuses, Rejoins, SaysSilent, SilenceOf, SilenceOfKind, with_log}
+use Rattle.media_agents.specs.Asking.{AreSilent, AreSilentAt, Asks, Closes, Gathers, IsHold, Joins, JoinsSome, LeavesIt, Opens, Refuses, Rejoins, SaysSilent, SilenceOf, SilenceOfKind}
 use Rattle.media_agents.specs.Finding.{log_at}
 use Rattle.media_agents.proofs.ActLemmas.{goes_on, goes_on_as}
 use Rattle.media_agents.proofs.ChainLemmas.{chain_on}
@@ -184,29 +183,19 @@ AreSlot home slot = IsSlot home slot.source slot.session slot.stream slot.log
 
 pub opens_in : (home : Home) (session stream session' stream' : ℤ) (log : HeldLog) (result : Result Unit HeldLog) (old new : SlotLog) →
     session' ≡ session → stream' ≡ stream → AreSlot home old → AreSlot home new →
-    OnOk result ((old.log ≡ None) × (new ≡ with_log session' stream' log)) → IfErr result (λ back. (back ≡ log) × (new ≡ old)) →
+    OnOk result (old.log ≡ None) → OnOk result (new ≡ with_log session' stream' log) → IfErr result (λ back. back ≡ log) →
     Opens (IsHold home) session stream log result
-opens_in home session stream session' stream' log (Ok done) old new session_is stream_is before after opened back = record {
+opens_in home session stream session' stream' log (Ok done) old new session_is stream_is before after free opened back = record {
   found = old;
   held = record {
     found_is = before;
     left_is = subst (λ (slot : SlotLog). AreSlot home slot)
-        (opened.1 ∙ ap (λ (s : ℤ). with_log s stream' log) session_is ∙ ap (λ (s : ℤ). with_log session s log) stream_is) after;
+        (opened ∙ ap (λ (s : ℤ). with_log s stream' log) session_is ∙ ap (λ (s : ℤ). with_log session s log) stream_is) after;
   };
-  free = opened.0;
+  free = free;
 }
-opens_in home session stream session' stream' log (Err it) old new session_is stream_is before after opened back = record {
+opens_in home session stream session' stream' log (Err it) old new session_is stream_is before after free opened back = record {
   found = old;
   held = record { found_is = before; left_is = before };
-  back_is = back.0;
+  back_is = back;
 }
-
--- of a publication, whose slot counts messages
-pub opens_counted : (A : Type 0) (home : Home) (session stream session' stream' : ℤ) (log : HeldLog) (result : Result Unit HeldLog) (old new : SlotCount) →
-    session' ≡ session → stream' ≡ stream → AreSlot home old.kept → AreSlot home new.kept → OnOk result (A × (old.kept.log ≡ None)) →
-    OnOk result (new ≡ record old { kept = with_log session' stream' log; reports = [] }) → IfErr result (λ back. (back ≡ log) × (new ≡ old)) →
-    Opens (IsHold home) session stream log result
-opens_counted A home session stream session' stream' log (Ok done) old new session_is stream_is before after free opened back =
-    opens_in home session stream session' stream' log (Ok done) old.kept new.kept session_is stream_is before after (free.1, ap (λ (slot : SlotCount). slot.kept) opened) tt
-opens_counted A home session stream session' stream' log (Err it) old new session_is stream_is before after free opened back =
-    opens_in home session stream session' stream' log (Err it) old.kept new.kept session_is stream_is before after tt (back.0, ap (λ (slot : SlotCount). slot.kept) back.1)

@@ -2,10 +2,10 @@
 use Rattle.std.proofs.Common.{◌≡◌, ◌+◌, ◌<◌, ◌≤◌, ◌⊎◌, ℕ, Bool, true, false, List, [], ◌∷◌, ◌++◌, All, Option, Some, None, ap, append_assoc, arith, cond, filter, get_or, inl, inr, length, map, refl, rules, subst, sym, take, ◌∙◌, length-append}
 use Rattle.std.proofs.lemmas.List.{append-nil, length-take-le, map-append, take-append-le, take_all, take_more}
 use Rattle.std.proofs.lemmas.Bool.{cases_lt}
-use Rattle.std.proofs.lemmas.List.Elements.{All-append, All-cons, All-head, All-nil, All-tail, Contains-append_left, Contains-append_right, filter-append, filter_map-append}
+use Rattle.std.proofs.lemmas.List.Elements.{All-append, All-cons, All-head, All-nil, All-tail, Contains-append_left, Contains-append_right, Contains-push_cases, filter-append, filter_map-append}
 use Rattle.std.specs.Prelude.{Contains, filter_map}
 use Rattle.channel_uri.specs.declared.address.Address.{Address}
-use Rattle.media_agents.specs.Finding.{Adds, AddsIf, AreNamed}
+use Rattle.media_agents.specs.Finding.{Adds, AddsIf, AreDistinct, AreNamed}
 
 -- ---- logs
 
@@ -69,10 +69,22 @@ one P x is = All-cons P x [] is (All-nil P)
 last_is_there : (xs : List Address) (x : Address) → Contains (xs ++ x ∷ []) x
 last_is_there xs x = Contains-append_right xs (x ∷ []) x (search rules)
 
+push_distinct : (xs : List Address) (x : Address) → AreDistinct xs → (Contains xs x → ⊥) → AreDistinct (xs ++ x ∷ [])
+push_distinct [] x none new = (new, tt)
+push_distinct (first ∷ xs) x distinct new = (
+  λ there. by (Contains-push_cases xs x first there),
+  push_distinct xs x distinct.1 (λ there. new (Contains-append_right (first ∷ []) xs x there)),
+)
+  where
+    by : Contains xs first ⊎ (x ≡ first) → ⊥
+    by (inl there) = distinct.0 there
+    by (inr same) = new (0, omega arith, sym same)
+
 -- one more is named, and it joins them
 pub named_more : (named old new : List Address) (address : Address) → AreNamed named old → Adds old address new → AreNamed (named ++ address ∷ []) new
 named_more named old new address before (inl same) =
     subst (AreNamed (named ++ address ∷ [])) (sym same.0) record {
+      once = before.once;
       each = all_weaken (Contains named) (Contains (named ++ address ∷ [])) old (λ x. Contains-append_left named (address ∷ []) x) before.each;
       all = all_of before.all same.1;
     }
@@ -84,6 +96,7 @@ named_more named old new address before (inl same) =
     all_of (inr most) there = inr most
 named_more named old new address before (inr joined) =
     subst (AreNamed (named ++ address ∷ [])) (sym joined.0) record {
+      once = push_distinct old address before.once joined.2;
       each = All-append (Contains (named ++ address ∷ [])) old (address ∷ [])
           (all_weaken (Contains named) (Contains (named ++ address ∷ [])) old (λ x. Contains-append_left named (address ∷ []) x) before.each)
           (one (Contains (named ++ address ∷ [])) address (last_is_there named address));
@@ -122,4 +135,4 @@ module _ {A : Type 0} (at_row : A → Option Address) where
       (named_if (filter_map at_row (take at rows)) old new (at_row one) one refl before adds)
 
 pub none_named : AreNamed [] []
-none_named = record { each = All-nil (Contains []); all = inl (All-nil (Contains [])) }
+none_named = record { once = tt; each = All-nil (Contains []); all = inl (All-nil (Contains [])) }

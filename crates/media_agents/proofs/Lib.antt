@@ -13,6 +13,7 @@ pub mod ReadingLemmas
 pub mod RowLemmas
 pub mod RunLemmas
 pub mod SetUpLemmas
+pub mod SharingLemmas
 pub mod SteppingLemmas
 pub mod StepsLemmas
 pub mod TrafficLemmas

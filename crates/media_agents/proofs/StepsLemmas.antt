@@ -13,9 +13,9 @@ use Rattle.driver_steps.specs.Reporting.{image_move}
 use Rattle.driver_steps.specs.Sending.{send_move}
 use Rattle.frame_codec.specs.Datagram.{Content}
 use Rattle.log_arena.specs.Homes.{Home}
-use Rattle.log_slots.specs.Slots.{SlotLog, with_readers, without_log}
+use Rattle.log_slots.specs.Slots.{SlotLog, with_log, with_readers, without_log}
 use Rattle.media_agents.specs.Acts.{Access, GoesOn, Writes, held, kept, lacked, looked}
-use Rattle.media_agents.specs.Asking.{Closes, IsAt, IsHold, Opens, Rejoins, SaysSilent, with_log}
+use Rattle.media_agents.specs.Asking.{Closes, IsAt, IsHold, Opens, Rejoins, SaysSilent}
 use Rattle.media_agents.specs.declared.journal.Journal.{Journal}
 use Rattle.media_agents.specs.declared.journal.Stamp.{Stamp}
 use Rattle.media_agents.specs.declared.slots.LogAt.{LogAt}

@@ -10,7 +10,7 @@ use Rattle.driver_core.specs.Renewal.{source_at}
 use Rattle.driver_core.specs.State.{State, at_moment}
 use Rattle.driver_steps.specs.Held.{HeldLog}
 use Rattle.log_arena.specs.Homes.{Home}
-use Rattle.log_slots.specs.Slots.{IsSlot, SlotLog, is_silent_in, log_of, reach_in, with_readers, without_log}
+use Rattle.log_slots.specs.Slots.{IsSlot, SlotLog, is_silent_in, log_of, reach_in, with_log, with_readers, without_log}
 use Rattle.media_agents.specs.Acts.{Access, Chain, held}
 use Rattle.media_agents.specs.declared.slots.LogAt.{LogAt}
 use Rattle.media_agents.specs.Finding.{log_at}
@@ -43,10 +43,6 @@ pub record Closes (Held : SlotLog → SlotLog → Type 0) (source : ℕ) (log : 
   pub found : SlotLog
   pub held : Held found (without_log source found)
   pub log_is : log ≡ log_of source found
-
--- the log is open in the slot, of that session and stream
-abbrev pub with_log : ℤ → ℤ → HeldLog → SlotLog
-with_log session stream log = record { source = log.source; session = session; stream = stream; log = Some log }
 
 -- no log was open there, and this one is from then on, of that session and stream
 pub record Takes (Held : SlotLog → SlotLog → Type 0) (session stream : ℤ) (log : HeldLog) : Type 0 where

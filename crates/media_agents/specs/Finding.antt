@@ -49,15 +49,22 @@ named_by subscriptions = filter_map endpoint_in subscriptions
 -- an address joined others, if it was not among them and there was room for it
 abbrev pub Adds : List Address → Address → List Address → Type 0
 Adds old address new =
-    ((new ≡ old) × (Contains old address ⊎ (length old ≡ 512))) ⊎ ((new ≡ old ++ address ∷ []) × (length old < 512))
+    ((new ≡ old) × (Contains old address ⊎ (length old ≡ 512)))
+    ⊎ ((new ≡ old ++ address ∷ []) × (length old < 512) × (Contains old address → ⊥))
 
 -- so it did, if there is one
 abbrev pub AddsIf : Option Address → List Address → List Address → Type 0
 AddsIf None old new = new ≡ old
 AddsIf (Some address) old new = Adds old address new
 
--- each is one of those that are named, and all of them are there, or 512
+-- none stands twice
+abbrev pub AreDistinct : List Address → Type 0
+AreDistinct [] = Unit {0}
+AreDistinct (address ∷ others) = (Contains others address → ⊥) × AreDistinct others
+
+-- each is one of those that are named, once, and all of them are there, or 512
 pub record AreNamed (named endpoints : List Address) : Type 0 where
+  pub once : AreDistinct endpoints
   pub each : All (Contains named) endpoints
   pub all : All (Contains endpoints) named ⊎ (length endpoints ≡ 512)
 

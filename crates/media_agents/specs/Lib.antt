@@ -10,6 +10,7 @@ pub mod Journals
 pub mod Mails
 pub mod Passing
 pub mod SetUps
+pub mod Sharing
 pub mod Stepping
 pub mod Tallying
 pub mod Traffic

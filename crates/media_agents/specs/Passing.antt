@@ -8,19 +8,22 @@ use Rattle.media_agents.specs.declared.gate.Turn.{Turn}
 abbrev pub one_more : ℕ → ℕ
 one_more n = min (n + 1) (2 ^ 64 - 1)
 
--- the turn after that one, in which there was something to do, or not
-abbrev pub next_turn : Bool → Turn → Turn
-next_turn worked turn = record {
+-- the turn after that one, in which there was something to do, or not, and something to look after, or not
+abbrev pub next_turn : Bool → Bool → Turn → Turn
+next_turn worked watches turn = record {
   number = one_more turn.number;
   idle = if worked then 0 else one_more turn.idle;
+  watches = watches;
 }
 
 -- how long an agent sleeps after so many idle turns, in nanoseconds: a microsecond after 61, and twice as long after each further
--- one, up to a millisecond
-abbrev pub pause_after : ℕ → ℕ
-pause_after idle = min (1000 * 2 ^ min (idle - 61) 10) 1000000
+-- one, up to a millisecond where it has something to look after, else up to ten
+abbrev pub pause_after : ℕ → Bool → ℕ
+pause_after idle watches = min (1000 * 2 ^ min (idle - 61) 14) (if watches then 1000000 else 10000000)
 
--- how an agent rests after so many idle turns: it spins for 10 turns, yields for 50, and then sleeps
-abbrev pub rest_after : ℕ → Rest
-rest_after idle =
-    if idle == 0 then Nothing else (if nat_le idle 10 then Spin else (if nat_le idle 60 then Yield else Sleep (pause_after idle)))
+-- how an agent rests before a turn: it spins for 10 idle ones, yields for 50, and then sleeps
+abbrev pub rest_before : Turn → Rest
+rest_before turn =
+    if turn.idle == 0
+    then Nothing
+    else (if nat_le turn.idle 10 then Spin else (if nat_le turn.idle 60 then Yield else Sleep (pause_after turn.idle turn.watches)))

@@ -15,7 +15,7 @@ use Rattle.media_agents.specs.Desks.{DeskState, Reports}
 use Rattle.media_agents.specs.Asking.{AreSilent}
 use Rattle.media_agents.specs.Following.{Follows, IsJoined, Undoes}
 use Rattle.media_agents.specs.Journals.{after_entry, stamp_of}
-use Rattle.media_agents.specs.Mails.{PostsEach, PostsTo, RingState}
+use Rattle.media_agents.specs.Mails.{AcknowledgesEvent, PostsEach, PostsTo, RingState}
 use Rattle.media_agents.specs.Turns.{events_in}
 use Rattle.policy_core.specs.declared.decision.Decision.{Decision}
 use Rattle.published_registry.specs.Histories.{History, IsPlannedOn, Known, registry_of}
@@ -57,6 +57,12 @@ module _ {Logs Desk Notes : Type 0} where
   -- the events of the entries, in order
   abbrev pub events_made : WorksState Logs Desk Notes → List Event
   events_made works = events_in works.history.entries
+
+  -- the event was taken out of the queue, and if it is a command it was acknowledged; then it goes on so
+  pub record Taking (Goes : WorksState Logs Desk Notes → Event → WorksState Logs Desk Notes → Type 0) (old : WorksState Logs Desk Notes) (event : Event) (new : WorksState Logs Desk Notes) : Type 0 where
+    pub rings : List RingState
+    pub acknowledges : AcknowledgesEvent event old.rings rings
+    pub goes : Goes (record old { rings = rings }) event new
 
 module _ {Logs Desk Notes : Type 0} (LogsDid : Logs → List Access → Type 0) (home : Home) where
   -- An entry was committed, with that response and these decisions, which the receipt names: each pair that comes with it had been

@@ -5,7 +5,7 @@ ghost use Rattle.driver_core.specs.declared.event.Event.TheVariants.{Tick};
 ghost use Rattle.media_agents.specs.Acts.{Each, GoesOn};
 ghost use Rattle.media_agents.specs.Asking.{IsRowClosed};
 ghost use Rattle.media_agents.specs.Turns.{Turned};
-ghost use Rattle.media_agents.specs.Works.{Does, Misses, events_made};
+ghost use Rattle.media_agents.specs.Works.{Does, Misses, Taking, events_made};
 ghost use Rattle.published_registry.specs.Histories.{registry_of};
 ghost use Rattle.std.specs.Prelude.{◌≡◌};
 
@@ -78,7 +78,7 @@ impl<
     /// time goes on. It answers how many of these were refused memory.
     pub fn turn<R: Wait>(&mut self, rt: &R, now: u64) -> u32
         ensures known { self.new.known ≡ self.old.known }
-        ensures turned { Turned events_made (Does L.did D.told N.home T.wrote) (Misses L.did D.told N.home) self.old.taker self.new.taker self.old.known (Tick now) self.old.works self.new.works result }
+        ensures turned { Turned events_made (Taking (Does L.did D.told N.home T.wrote)) (Taking (Misses L.did D.told N.home)) self.old.taker self.new.taker self.old.known (Tick now) self.old.works self.new.works result }
     {
         self.gate.pass(Agent::Conductor, self.turn);
         let Conductor {
@@ -91,7 +91,7 @@ impl<
         let before = works.number();
         let misses = turn(rt, taker, known, works, Event::Tick { now });
         let worked = has_worked(misses, before, works.number());
-        *upcoming = upcoming.next(worked);
+        *upcoming = upcoming.next(worked, false);
         misses
     }
 

@@ -1,10 +1,12 @@
 //! What each turn of an agent passes before it does anything.
 
-ghost use Rattle.media_agents.specs.Passing.{next_turn, pause_after, rest_after};
-ghost use Rattle.std.specs.Prelude.{◌≡◌, ◌<◌};
+ghost use Rattle.media_agents.specs.Passing.{next_turn, pause_after, rest_before};
+ghost use Rattle.std.specs.Prelude.{◌≡◌, ◌<◌, false};
 
 use log_slots::rest;
+use std::sync::{Arc, Wait};
 use std::thread;
+use std::thread::Parker;
 use std::time::{Clock, Duration};
 
 /// One of the agents that run a driver.
@@ -25,19 +27,25 @@ pub struct Turn {
     pub number: u64,
     /// How many of the last ones, one after another, had nothing to do; the greatest `u64` stands for more.
     pub idle: u64,
+    /// Whether the agent had logs or addresses to look after in the last one, of which nothing wakes it.
+    pub watches: bool,
 }
 
 impl Turn {
     /// The first turn of an agent.
     pub fn first() -> Turn
-        ensures { result ≡ record { number = 0; idle = 0 } }
+        ensures { result ≡ record { number = 0; idle = 0; watches = false } }
     {
-        Turn { number: 0, idle: 0 }
+        Turn {
+            number: 0,
+            idle: 0,
+            watches: false,
+        }
     }
 
-    /// The turn after this one, in which there was something to do, or not.
-    pub fn next(&self, worked: bool) -> Turn
-        ensures { result ≡ next_turn worked self.now }
+    /// The turn after this one, in which there was something to do, or not, and something to look after, or not.
+    pub fn next(&self, worked: bool, watches: bool) -> Turn
+        ensures { result ≡ next_turn worked watches self.now }
     {
         Turn {
             number: self.number.saturating_add(1),
@@ -46,6 +54,7 @@ impl Turn {
             } else {
                 self.idle.saturating_add(1)
             },
+            watches,
         }
     }
 }
@@ -66,8 +75,12 @@ const YIELDS: u64 = 60;
 /// How long an agent sleeps the first time, in nanoseconds. Each further idle turn doubles it.
 const SHORTEST: u64 = 1_000;
 
-/// How long an agent sleeps at most, in nanoseconds.
-const LONGEST: u64 = 1_000_000;
+/// How long an agent sleeps at most that has something to look after, in nanoseconds.
+const WATCHFUL: u64 = 1_000_000;
+
+/// How long any other sleeps at most, in nanoseconds. The conductor is woken by each event that is pushed, and the others find
+/// their first log within that time.
+const LONGEST: u64 = 10_000_000;
 
 /// How many steps an agent that spins rests before a turn: a quarter of a microsecond.
 const STEPS: u32 = 32;
@@ -83,54 +96,60 @@ pub enum Rest {
 }
 
 /// How long an agent sleeps after so many idle turns, in nanoseconds.
-fn pause_after(idle: u64) -> u64
+fn pause_after(idle: u64, watches: bool) -> u64
     requires { 60 < idle }
-    ensures { result ≡ pause_after idle }
+    ensures { result ≡ pause_after idle watches }
 {
-    let doubled = (idle - YIELDS - 1).min(10);
-    (SHORTEST << doubled).min(LONGEST)
+    let doubled = (idle - YIELDS - 1).min(14);
+    let longest = if watches { WATCHFUL } else { LONGEST };
+    (SHORTEST << doubled).min(longest)
 }
 
-/// How an agent rests after so many idle turns.
-fn rest_after(idle: u64) -> Rest
-    ensures { result ≡ rest_after idle }
+/// How an agent rests before a turn.
+fn rest_before(turn: Turn) -> Rest
+    ensures { result ≡ rest_before turn }
 {
-    if idle == 0 {
+    if turn.idle == 0 {
         Rest::Nothing
-    } else if idle <= SPINS {
+    } else if turn.idle <= SPINS {
         Rest::Spin
-    } else if idle <= YIELDS {
+    } else if turn.idle <= YIELDS {
         Rest::Yield
     } else {
-        Rest::Sleep(pause_after(idle))
+        Rest::Sleep(pause_after(turn.idle, turn.watches))
     }
 }
 
 /// The gate of a driver that runs: an agent that has something to do goes on at once. One that has nothing to do spins at
-/// first, then yields to other threads, and then sleeps, twice as long each time, up to a millisecond.
-#[derive(Clone, Copy, Debug)]
-pub struct Backoff<C> {
-    /// By which an agent sleeps.
-    pub clock: C,
+/// first, then yields to other threads, and then sleeps, twice as long each time: up to a millisecond where it has logs or
+/// addresses to look after, else up to ten. Whoever pushes an event rings the conductor's bell, which ends its sleep.
+#[derive(Drop)]
+pub struct Backoff<R> {
+    /// By which agents sleep.
+    rt: R,
+    /// The conductor's.
+    bell: Arc<Parker>,
 }
 
-impl<C> Backoff<C> {
-    /// The gate by which an agent sleeps by this clock.
-    pub fn new(clock: C) -> Backoff<C>
-        ensures { result.clock ≡ clock }
-    {
-        Backoff { clock }
+impl<R> Backoff<R> {
+    /// The gate of agents that sleep by `rt`, of which the conductor is woken by that bell.
+    pub fn new(rt: R, bell: Arc<Parker>) -> Backoff<R> {
+        Backoff { rt, bell }
     }
 }
 
-impl<C: Clock> Gate for Backoff<C> {
-    fn pass(&self, _agent: Agent, turn: Turn) {
-        match rest_after(turn.idle) {
+impl<R: Clock + Wait> Gate for Backoff<R> {
+    fn pass(&self, agent: Agent, turn: Turn) {
+        match rest_before(turn) {
             Rest::Nothing => {}
             Rest::Spin => rest(STEPS),
             Rest::Yield => thread::yield_now(),
             Rest::Sleep(nanoseconds) => {
-                thread::sleep(&self.clock, Duration::from_nanos(nanoseconds));
+                let pause = Duration::from_nanos(nanoseconds);
+                match agent {
+                    Agent::Conductor => self.bell.park_timeout(&self.rt, pause),
+                    _ => thread::sleep(&self.rt, pause),
+                }
             }
         }
     }

@@ -2,7 +2,7 @@
 
 ghost use Rattle.driver_core.specs.SendRequests.{is_sent};
 ghost use Rattle.media_agents.specs.Finding.{Adds, AddsIf, AreControls, AreEndpoints, control_in, endpoint_in, image_in, images_of, log_at, publications_of, with_image};
-ghost use Rattle.std.specs.Prelude.{◌≡◌, ◌++◌, ◌∷◌, [], Contains, IsTrue, if◌then◌else◌, take};
+ghost use Rattle.std.specs.Prelude.{◌≡◌, ◌++◌, ◌∷◌, [], Contains, MatchBool, if◌then◌else◌, take};
 
 use crate::slots::LogAt;
 use channel_uri::{Address, Media, Place, address_of};
@@ -95,7 +95,7 @@ fn endpoint_of(subscription: &Subscription) -> Option<Address>
 
 /// Whether the address is among these.
 fn is_among(endpoints: &[Address], endpoint: &Address) -> bool
-    ensures { IsTrue result → Contains endpoints.now endpoint.now }
+    ensures { MatchBool result (Contains endpoints.now endpoint.now) (Contains endpoints.now endpoint.now → ⊥) }
 {
     endpoints.contains(endpoint)
 }

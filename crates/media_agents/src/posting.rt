@@ -8,7 +8,8 @@ ghost use Rattle.std.specs.Prelude.{◌≡◌, ◌≤◌, ◌++◌, ◌∷◌, [
 use command_queue::{Known, Refused, Sender};
 use driver_core::Event;
 use std::marker::Model;
-use std::sync::Wait;
+use std::sync::{Arc, Wait};
+use std::thread::Parker;
 
 /// A sender of events, with what is known of their queue: whatever that is, the queue's answers fit it. It may go to another
 /// thread.
@@ -16,6 +17,8 @@ use std::sync::Wait;
 pub struct EventSender {
     sender: Sender<Event>,
     known: Known<Event>,
+    /// It wakes the conductor where that sleeps.
+    bell: Arc<Parker>,
 }
 
 impl Model for EventSender {
@@ -31,24 +34,34 @@ impl Model for EventSender {
 }
 
 impl EventSender {
-    /// Events go by this sender of the queue.
-    pub fn new(sender: Sender<Event>) -> EventSender
+    /// Events go by this sender of the queue, whose conductor is woken by that bell.
+    pub fn new(sender: Sender<Event>, bell: Arc<Parker>) -> EventSender
         ensures { result ≡ sender }
     {
         let mut sender = sender;
         let known = sender.note();
-        EventSender { sender, known }
+        EventSender {
+            sender,
+            known,
+            bell,
+        }
     }
 
-    /// Puts an event at the back of the queue. `Refused` steps it back, only where the queue held 1,024 events at one moment
-    /// of the call; nothing was sent then. It takes no memory.
+    /// Puts an event at the back of the queue, and wakes the conductor where it sleeps. `Refused` hands the event back, only where
+    /// the queue held 1,024 events at one moment of the call; nothing was sent then. It takes no memory.
     pub fn push<R: Wait>(&mut self, rt: &R, event: Event) -> Result<(), Refused<Event>>
         ensures sent { MatchResult result (λ _. self.new ≡ record self.old { sent = self.old.sent ++ event ∷ [] })
             (λ refused. (refused.0 ≡ event) × (self.new ≡ self.old)) }
         ensures full { OnErr result ((facts : Facts Happening) × WasFull self.old.total self.old.number self.old.sent facts) }
     {
-        let EventSender { sender, known } = self;
-        sender.push(rt, known, event)
+        let EventSender {
+            sender,
+            known,
+            bell,
+        } = self;
+        let pushed = sender.push(rt, known, event);
+        bell.unpark();
+        pushed
     }
 
     /// How many events the queue held at one moment of the call. Others may push and take before it returns. It takes no memory.
@@ -57,7 +70,11 @@ impl EventSender {
         ensures few { result ≤ 1024 }
         ensures held { (facts : Facts Happening) × DidHold result self.old.total self.old.number self.old.sent facts }
     {
-        let EventSender { sender, known } = self;
+        let EventSender {
+            sender,
+            known,
+            bell: _,
+        } = self;
         sender.len(rt, known)
     }
 }

@@ -6,7 +6,7 @@ ghost use Rattle.media_agents.specs.Passing.{next_turn};
 ghost use Rattle.media_agents.specs.SetUps.{SetsUp, SetsUpFew};
 ghost use Rattle.media_agents.specs.Traffic.{HearsOut, ReceiverTakes, ReportsOne};
 ghost use Rattle.published_registry.specs.Histories.{IsContinuedBy};
-ghost use Rattle.std.specs.Prelude.{◌≡◌, Bool, IfOk, max};
+ghost use Rattle.std.specs.Prelude.{◌≡◌, Bool, false, IfOk, max};
 
 use crate::eliciting::{Elicited, elicit};
 use crate::finding::{find_endpoints, find_images};
@@ -174,6 +174,11 @@ impl<S, G: Gate> Model for ReceiverAgent<S, G> {
     ghost invariant = { λ agent. IsSome agent.pass };
 }
 
+/// Whether there is an address to read at or an image to report of.
+fn has_to_watch(endpoints: &[Address], images: &[ImageAt]) -> bool {
+    !endpoints.is_empty() || !images.is_empty()
+}
+
 impl<S: Stepping + Drop, G: Gate + Drop> ReceiverAgent<S, G> {
     /// A receiver before its first turn.
     pub fn new(
@@ -184,7 +189,7 @@ impl<S: Stepping + Drop, G: Gate + Drop> ReceiverAgent<S, G> {
         queue: EventSender,
         elicited: Elicited,
     ) -> Result<ReceiverAgent<S, G>, AllocError>
-        ensures { IfOk result (λ agent. agent ≡ record { steps = steps; known = pass; moment = 0; turn = record { number = 0; idle = 0 }; queue = queue; eliciting = elicited }) }
+        ensures { IfOk result (λ agent. agent ≡ record { steps = steps; known = pass; moment = 0; turn = record { number = 0; idle = 0; watches = false }; queue = queue; eliciting = elicited }) }
     {
         Ok(ReceiverAgent {
             steps,
@@ -211,7 +216,7 @@ impl<S: Stepping + Drop, G: Gate + Drop> ReceiverAgent<S, G> {
     /// send that fails is a datagram lost, and counted, and so is a read that fails.
     pub fn turn<R: Wait, W: Wire>(&mut self, rt: &R, wire: &mut W, now: u64)
         ensures known { IsContinuedBy self.old.known self.new.known }
-        ensures turn { (worked : Bool) × (self.new.turn ≡ next_turn worked self.old.turn) }
+        ensures turn { (worked : Bool) × (watches : Bool) × (self.new.turn ≡ next_turn worked watches self.old.turn) }
         ensures moment { self.new.moment ≡ max now self.old.moment }
         ensures queue { SetsUpFew self.new.moment self.old.queue self.new.queue }
         ensures receives { ReceivesBy self.old self.new (Trail (S.did self.old.steps) (W.went wire.old)) (Trail (S.did self.new.steps) (W.went wire.new)) }
@@ -242,7 +247,8 @@ impl<S: Stepping + Drop, G: Gate + Drop> ReceiverAgent<S, G> {
         let pass = elicit(rt, &mut self.steps, pass, wire, &mut self.elicited, moment);
         wire.turn_ended();
         self.pass = Some(pass);
-        self.turn = self.turn.next(heard || due);
+        let watches = has_to_watch(endpoints, images);
+        self.turn = self.turn.next(heard || due, watches);
     }
 
     /// The turn that is next.

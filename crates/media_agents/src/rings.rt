@@ -1,11 +1,12 @@
 //! The rings by which clients get their replies.
 
-ghost use Rattle.media_agents.specs.Mails.{IsReplyOf, Posts, PostsTo, RingState, assigned};
+ghost use Rattle.media_agents.specs.Mails.{AcknowledgesOne, IsReplyOf, Posts, PostsTo, RingGoes, RingState, assigned};
 ghost use Rattle.rtrb.specs.Ring.{known_free, sent};
 ghost use Rattle.std.specs.Prelude.{◌≡◌, ◌≢◌, ◌<◌, All, IfNone, IfSome, Some, length, slice_get};
 
 use crate::mail::{ClientReply, Mail};
 use crate::naming::DriverNaming;
+use crate::sharing::Acknowledgements;
 use published_registry::Receipt;
 use rtrb::Producer;
 use std::alloc::Global;
@@ -19,6 +20,8 @@ pub struct Ring<N: DriverNaming> {
     /// How many of its replies were dropped, since the ring was full.
     lost: u64,
     mails: Producer<Mail<N>, Global>,
+    /// By what its commands are acknowledged. Those of the client before it were taken before it had the ring.
+    share: Acknowledgements,
 }
 
 impl<N: DriverNaming> Model for Ring<N> {
@@ -27,18 +30,19 @@ impl<N: DriverNaming> Model for Ring<N> {
 
     ghost Value = { RingState };
 
-    ghost view = { λ ring. record { client = ring.client; lost = ring.lost; sent = sent ring.mails; free = known_free ring.mails } };
+    ghost view = { λ ring. record { client = ring.client; lost = ring.lost; sent = sent ring.mails; free = known_free ring.mails; share = ring.share } };
 }
 
 impl<N: DriverNaming> Ring<N> {
     /// A ring that is no client's yet.
-    pub fn new(mails: Producer<Mail<N>, Global>) -> Ring<N>
-        ensures { result ≡ record { client = 0; lost = 0; sent = sent mails; free = known_free mails } }
+    pub fn new(mails: Producer<Mail<N>, Global>, share: Acknowledgements) -> Ring<N>
+        ensures { result ≡ record { client = 0; lost = 0; sent = sent mails; free = known_free mails; share = share } }
     {
         Ring {
             client: 0,
             lost: 0,
             mails,
+            share,
         }
     }
 
@@ -68,6 +72,13 @@ impl<N: DriverNaming> Ring<N> {
         if self.mails.push(mail).is_err() {
             self.lost = self.lost.saturating_add(1);
         }
+    }
+
+    /// A command of its client was taken out of the queue.
+    fn acknowledge(&mut self)
+        ensures { AcknowledgesOne self.old self.new }
+    {
+        self.share.add();
     }
 }
 
@@ -125,6 +136,15 @@ impl<N: DriverNaming> Rings<N> {
     {
         if let Some(place) = ring_of(self.rings.as_slice(), client) {
             self.rings[place].post(receipt, reply);
+        }
+    }
+
+    /// A command of this client was taken out of the queue. It takes no memory.
+    pub(crate) fn acknowledge(&mut self, client: u64)
+        ensures { RingGoes client AcknowledgesOne self.old self.new }
+    {
+        if let Some(place) = ring_of(self.rings.as_slice(), client) {
+            self.rings[place].acknowledge();
         }
     }
 }

@@ -6,7 +6,7 @@ ghost use Rattle.media_agents.specs.declared.stepping.Stepped.{Stepped as It};
 ghost use Rattle.media_agents.specs.Passing.{next_turn};
 ghost use Rattle.media_agents.specs.Traffic.{HearsOut, SenderTakes, SendsOne, SendsRun, was_due};
 ghost use Rattle.published_registry.specs.Histories.{IsContinuedBy};
-ghost use Rattle.std.specs.Prelude.{◌≡◌, Bool, IfOk, Option, max};
+ghost use Rattle.std.specs.Prelude.{◌≡◌, Bool, false, IfOk, Option, max};
 
 use crate::finding::{find_controls, find_publications};
 use crate::gate::{Agent, Gate, Turn};
@@ -188,6 +188,11 @@ impl<S, G: Gate> Model for SenderAgent<S, G> {
     ghost invariant = { λ agent. IsSome agent.pass };
 }
 
+/// Whether there is an address to read at or a log to send.
+fn has_to_watch(controls: &[Address], logs: &[LogAt]) -> bool {
+    !controls.is_empty() || !logs.is_empty()
+}
+
 impl<S: Stepping + Drop, G: Gate + Drop> SenderAgent<S, G> {
     /// A sender before its first turn, which sends from the address `local`.
     pub fn new(
@@ -197,7 +202,7 @@ impl<S: Stepping + Drop, G: Gate + Drop> SenderAgent<S, G> {
         pass: Pass,
         local: Address,
     ) -> Result<SenderAgent<S, G>, AllocError>
-        ensures { IfOk result (λ agent. agent ≡ record { steps = steps; local = local; known = pass; moment = 0; turn = record { number = 0; idle = 0 } }) }
+        ensures { IfOk result (λ agent. agent ≡ record { steps = steps; local = local; known = pass; moment = 0; turn = record { number = 0; idle = 0; watches = false } }) }
     {
         Ok(SenderAgent {
             steps,
@@ -223,7 +228,7 @@ impl<S: Stepping + Drop, G: Gate + Drop> SenderAgent<S, G> {
     pub fn turn<R: Wait, W: Wire>(&mut self, rt: &R, wire: &mut W, now: u64)
         ensures known { IsContinuedBy self.old.known self.new.known }
         ensures same { self.new ≡ record self.old { steps = self.new.steps; known = self.new.known; moment = max now self.old.moment; turn = self.new.turn } }
-        ensures turn { (worked : Bool) × (self.new.turn ≡ next_turn worked self.old.turn) }
+        ensures turn { (worked : Bool) × (watches : Bool) × (self.new.turn ≡ next_turn worked watches self.old.turn) }
         ensures sends { GoesOn (Sends self.new.moment self.old.local self.old.known self.new.known) (Trail (S.did self.old.steps) (W.went wire.old)) (Trail (S.did self.new.steps) (W.went wire.new)) }
     {
         self.gate.pass(Agent::Sender, self.turn);
@@ -270,7 +275,8 @@ impl<S: Stepping + Drop, G: Gate + Drop> SenderAgent<S, G> {
         );
         wire.turn_ended();
         self.pass = Some(pass);
-        self.turn = self.turn.next(heard || told || sent);
+        let watches = has_to_watch(controls, all);
+        self.turn = self.turn.next(heard || told || sent, watches);
     }
 
     /// The turn that is next.

@@ -8,7 +8,7 @@ ghost use Rattle.std.specs.Prelude.{◌≡◌, ◌≤◌, List, length, IfErr, I
 use crate::journal::Journal;
 use crate::unopened::Unopened;
 use driver_steps::OpenLog;
-use log_slots::{LogSlot, Naming, Slot};
+use log_slots::{Held, LogSlot, Naming, Slot};
 use std::sync::{Mutex, Wait};
 use stream_registry::Source;
 
@@ -79,24 +79,9 @@ pub struct Slots<N: Naming> {
     pub journal: Mutex<Journal>,
 }
 
-/// Exactly these subscriptions read the log of that publication, if it is open here.
-pub(crate) fn rejoin_publication<N: Naming>(
-    slot: &mut Slot<N>,
-    source: u64,
-    subscriptions: &[u64],
-) -> Option<u64>
-    requires { length subscriptions.now ≤ 512 }
-    ensures { Rejoins (IsHold N.home) source subscriptions.now result }
-{
-    slot.holds();
-    let position = slot.rejoin(source, subscriptions);
-    slot.holds();
-    position
-}
-
-/// Exactly these subscriptions read the log of that image, if it is open here.
-pub(crate) fn rejoin_image<N: Naming>(
-    slot: &mut LogSlot<N>,
+/// Exactly these subscriptions read the log of that source, if it is open here.
+pub(crate) fn rejoin_in<N: Naming, H: Held<N>>(
+    slot: &mut H,
     source: u64,
     subscriptions: &[u64],
 ) -> Option<u64>
@@ -117,19 +102,8 @@ pub(crate) fn ask_image<N: Naming>(slot: &LogSlot<N>, source: u64, now: u64, lim
     slot.is_silent(source, now, limit)
 }
 
-/// The log of that publication closes, if it is open here.
-pub(crate) fn close_publication<N: Naming>(slot: &mut Slot<N>, source: u64) -> Option<OpenLog>
-    ensures closed { Closes (IsHold N.home) source result }
-    ensures home { IfSome result (λ log. (place_held log.log).home ≡ N.home) }
-{
-    slot.holds();
-    let log = slot.close(source);
-    slot.holds();
-    log
-}
-
-/// The log of that image closes, if it is open here.
-pub(crate) fn close_image<N: Naming>(slot: &mut LogSlot<N>, source: u64) -> Option<OpenLog>
+/// The log of that source closes, if it is open here.
+pub(crate) fn close_in<N: Naming, H: Held<N>>(slot: &mut H, source: u64) -> Option<OpenLog>
     ensures closed { Closes (IsHold N.home) source result }
     ensures home { IfSome result (λ log. (place_held log.log).home ≡ N.home) }
 {

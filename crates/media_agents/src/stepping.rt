@@ -17,7 +17,7 @@ use driver_core::Astray;
 use driver_steps::{Answer, Cause, PacketRequest, Told, packet_request};
 use drop_tallies::Miss;
 use frame_codec::Packet;
-use log_slots::{LogSlot, Naming, Slot, lock_soon};
+use log_slots::{Held, LogSlot, Naming, Slot, lock_soon};
 use policy_core::Decision;
 use published_registry::{Look, Pass};
 use std::alloc::Global;
@@ -116,9 +116,9 @@ fn lacking(stamp: Stamp) -> Stepped
     }
 }
 
-/// A publication takes a datagram, as a registry asks of it.
-fn take_in_publication<N: Naming>(
-    slot: &mut Slot<N>,
+/// The log takes a datagram, as a registry asks of it.
+fn take_in<N: Naming, H: Held<N>>(
+    slot: &mut H,
     alloc: Global,
     now: u64,
     from: &Address,
@@ -142,35 +142,9 @@ fn take_in_publication<N: Naming>(
     }
 }
 
-/// An image takes a datagram, as a registry asks of it.
-fn take_in_image<N: Naming>(
-    slot: &mut LogSlot<N>,
-    alloc: Global,
-    now: u64,
-    from: &Address,
-    packet: Packet<'_>,
-    request: &PacketRequest,
-    stamp: Stamp,
-) -> Stepped
-    requires { IsSoundContent (content packet) }
-    ensures { TakesBy (IsHold N.home) now from.now (content packet.entry) request.now stamp result }
-{
-    slot.holds();
-    let told = slot.packet(alloc, now, from, packet, request);
-    slot.holds();
-    match told {
-        Ok(told) => Stepped {
-            answer: told.answer,
-            decision: told.decision,
-            stamp,
-        },
-        Err(_) => lacking(stamp),
-    }
-}
-
-/// A datagram comes to a publication, by a look.
-fn hear_publication<N: Naming>(
-    slot: &mut Slot<N>,
+/// A datagram comes to the log, by a look.
+fn hear_in<N: Naming, H: Held<N>>(
+    slot: &mut H,
     look: &Look,
     alloc: Global,
     now: u64,
@@ -183,27 +157,7 @@ fn hear_publication<N: Naming>(
 {
     let stamp = Stamp::of(look);
     match packet_request(look, local, from, &packet) {
-        Ok(request) => take_in_publication(slot, alloc, now, from, packet, &request, stamp),
-        Err(why) => strayed(why, stamp),
-    }
-}
-
-/// A datagram comes to an image, by a look.
-fn hear_image<N: Naming>(
-    slot: &mut LogSlot<N>,
-    look: &Look,
-    alloc: Global,
-    now: u64,
-    local: &Address,
-    from: &Address,
-    packet: Packet<'_>,
-) -> Stepped
-    requires { IsSoundContent (content packet) }
-    ensures { HearsBy (IsHold N.home) ⊤ now from.now (content packet.entry) (packet_request (registry_of look.now) local.now from.now (content packet.entry)) (stamp_of look.now) result }
-{
-    let stamp = Stamp::of(look);
-    match packet_request(look, local, from, &packet) {
-        Ok(request) => take_in_image(slot, alloc, now, from, packet, &request, stamp),
+        Ok(request) => take_in(slot, alloc, now, from, packet, &request, stamp),
         Err(why) => strayed(why, stamp),
     }
 }
@@ -326,10 +280,10 @@ pub(crate) fn report_at<N: Naming, R: Wait>(
     }
 }
 
-/// One hold of a publication's lock, with one look within it: a datagram comes.
-fn come_to_publication<N: Naming, R: Wait>(
+/// One hold of a log's lock, with one look within it: a datagram comes.
+fn hear_at<N: Naming, H: Held<N>, R: Wait>(
     rt: &R,
-    slot: &Mutex<Slot<N>>,
+    slot: &Mutex<H>,
     pass: Pass,
     alloc: Global,
     now: u64,
@@ -344,32 +298,7 @@ fn come_to_publication<N: Naming, R: Wait>(
     let mut slot = lock_soon(rt, slot);
     match pass.enter() {
         Ok(look) => {
-            let it = hear_publication(&mut *slot, &look, alloc, now, local, from, packet);
-            (look.leave(), Some(it))
-        }
-        Err(pass) => (pass, None),
-    }
-}
-
-/// One hold of an image's lock, with one look within it: a datagram comes.
-fn come_to_image<N: Naming, R: Wait>(
-    rt: &R,
-    slot: &Mutex<LogSlot<N>>,
-    pass: Pass,
-    alloc: Global,
-    now: u64,
-    local: &Address,
-    from: &Address,
-    packet: Packet<'_>,
-) -> (Pass, Option<Stepped>)
-    requires { IsSoundContent (content packet) }
-    ensures known { IsContinuedBy pass result.0 }
-    ensures heard { IfSome result.1 (λ it. HearsBy (IsHold N.home) ⊤ now from.now (content packet.entry) (packet_request (registry_of result.0) local.now from.now (content packet.entry)) (stamp_of result.0) it) }
-{
-    let mut slot = lock_soon(rt, slot);
-    match pass.enter() {
-        Ok(look) => {
-            let it = hear_image(&mut *slot, &look, alloc, now, local, from, packet);
+            let it = hear_in(&mut *slot, &look, alloc, now, local, from, packet);
             (look.leave(), Some(it))
         }
         Err(pass) => (pass, None),
@@ -395,12 +324,12 @@ pub(crate) fn come_to<N: Naming, R: Wait>(
     let place = at.slot as usize;
     if at.published {
         match slots.publications.get(place) {
-            Some(slot) => come_to_publication(rt, slot, pass, alloc, now, local, from, packet),
+            Some(slot) => hear_at(rt, slot, pass, alloc, now, local, from, packet),
             None => (pass, None),
         }
     } else {
         match slots.images.get(place) {
-            Some(slot) => come_to_image(rt, slot, pass, alloc, now, local, from, packet),
+            Some(slot) => hear_at(rt, slot, pass, alloc, now, local, from, packet),
             None => (pass, None),
         }
     }

@@ -8,12 +8,10 @@ ghost use Rattle.std.specs.Prelude.{◌≡◌, All};
 use crate::finding::find;
 use crate::journal::Stamp;
 use crate::noting::{Noting, is_cut, keep_entry, keep_packet, keep_sending, keep_turn};
-use crate::slots::{
-    LogAt, Logs, Slots, ask_image, close_image, close_publication, rejoin_image, rejoin_publication,
-};
+use crate::slots::{LogAt, Logs, Slots, ask_image, close_in, rejoin_in};
 use crate::stepping::{Stepped, Stepping, come_to, report_at, send_at};
 use crate::tallying::{is_asking, is_counted};
-use crate::unopened::{Unopened, open_image, open_publication};
+use crate::unopened::{Unopened, open_in};
 use channel_uri::Address;
 use driver_core::{Event, Response};
 use driver_steps::OpenLog;
@@ -154,12 +152,12 @@ impl<N: Naming> Logs<N> for Steps<N> {
         let slot = at.slot as usize;
         if at.published {
             match self.slots.publications.get(slot) {
-                Some(it) => rejoin_publication(&mut *lock_soon(rt, it), at.source, subscriptions),
+                Some(it) => rejoin_in(&mut *lock_soon(rt, it), at.source, subscriptions),
                 None => None,
             }
         } else {
             match self.slots.images.get(slot) {
-                Some(it) => rejoin_image(&mut *lock_soon(rt, it), at.source, subscriptions),
+                Some(it) => rejoin_in(&mut *lock_soon(rt, it), at.source, subscriptions),
                 None => None,
             }
         }
@@ -183,12 +181,12 @@ impl<N: Naming> Logs<N> for Steps<N> {
         let slot = at.slot as usize;
         if at.published {
             match self.slots.publications.get(slot) {
-                Some(it) => open_publication(&mut *lock_soon(rt, it), log, session, stream),
+                Some(it) => open_in(&mut *lock_soon(rt, it), log, session, stream),
                 None => Err(Unopened::no_publication(&*self.slots, at, log)),
             }
         } else {
             match self.slots.images.get(slot) {
-                Some(it) => open_image(&mut *lock_soon(rt, it), log, session, stream),
+                Some(it) => open_in(&mut *lock_soon(rt, it), log, session, stream),
                 None => Err(Unopened::no_image(&*self.slots, at, log)),
             }
         }
@@ -198,12 +196,12 @@ impl<N: Naming> Logs<N> for Steps<N> {
         let slot = at.slot as usize;
         if at.published {
             match self.slots.publications.get(slot) {
-                Some(it) => close_publication(&mut *lock_soon(rt, it), at.source),
+                Some(it) => close_in(&mut *lock_soon(rt, it), at.source),
                 None => None,
             }
         } else {
             match self.slots.images.get(slot) {
-                Some(it) => close_image(&mut *lock_soon(rt, it), at.source),
+                Some(it) => close_in(&mut *lock_soon(rt, it), at.source),
                 None => None,
             }
         }

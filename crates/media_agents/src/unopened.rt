@@ -7,7 +7,7 @@ ghost use Rattle.std.specs.Prelude.{◌≡◌, ◌≤◌, length};
 
 use crate::slots::{LogAt, Slots};
 use driver_steps::OpenLog;
-use log_slots::{LogSlot, Naming, Slot};
+use log_slots::{Held, Naming};
 use std::marker::Model;
 
 /// A log that did not open, and comes back: its slot did not take it, or there is no such slot.
@@ -52,9 +52,9 @@ impl Unopened {
     }
 }
 
-/// The log of a publication opens here.
-pub(crate) fn open_publication<N: Naming>(
-    slot: &mut Slot<N>,
+/// The log opens here.
+pub(crate) fn open_in<N: Naming, H: Held<N>>(
+    slot: &mut H,
     log: OpenLog,
     session: i32,
     stream: i32,
@@ -62,26 +62,6 @@ pub(crate) fn open_publication<N: Naming>(
     requires home { (place_held log.log).home ≡ N.home }
     requires made { IsMadeFor session stream (made_held log.log) }
     requires fresh { messages_held log.log ≡ 0 }
-    ensures { Opens (IsHold N.home) session stream log result }
-{
-    slot.holds();
-    let opened = slot.open(log, session, stream);
-    slot.holds();
-    match opened {
-        Ok(()) => Ok(()),
-        Err(log) => Err(Unopened { log }),
-    }
-}
-
-/// The log of an image opens here.
-pub(crate) fn open_image<N: Naming>(
-    slot: &mut LogSlot<N>,
-    log: OpenLog,
-    session: i32,
-    stream: i32,
-) -> Result<(), Unopened>
-    requires home { (place_held log.log).home ≡ N.home }
-    requires made { IsMadeFor session stream (made_held log.log) }
     ensures { Opens (IsHold N.home) session stream log result }
 {
     slot.holds();

@@ -10,8 +10,8 @@ ghost use Rattle.media_agents.specs.Asking.{AreSilent, IsRowClosed, JoinsSome, L
 ghost use Rattle.media_agents.specs.Desks.{Reports, assigned_by};
 ghost use Rattle.media_agents.specs.Following.{Follows, Leaves, OpensNext, Undoes, coming};
 ghost use Rattle.media_agents.specs.Journals.{after_entry, stamp_of};
-ghost use Rattle.media_agents.specs.Mails.{PostsEach, TellsAll};
-ghost use Rattle.media_agents.specs.Works.{Declines, Does, Makes, MakesWith, Misses, events_made, known_of, with_entry};
+ghost use Rattle.media_agents.specs.Mails.{AcknowledgesEvent, PostsEach, TellsAll};
+ghost use Rattle.media_agents.specs.Works.{Declines, Does, Makes, MakesWith, Misses, Taking, events_made, known_of, with_entry};
 ghost use Rattle.published_registry.specs.Histories.{IsPlannedOn, registry_of};
 ghost use Rattle.std.specs.Prelude.{◌≡◌, ◌+◌, ◌<◌, ◌^◌, ◌++◌, ◌∷◌, [], length, All, IfOk, IfSome, MatchBool, OnErr, OnOk, Some};
 
@@ -24,7 +24,7 @@ use crate::mail::ClientReply;
 use crate::naming::DriverNaming;
 use crate::noting::Noting;
 use crate::pairing::settle;
-use crate::planning::{Foreseen, Planned, foresee, plan_joined};
+use crate::planning::{Planned, foresee, plan_joined, ready_of};
 use crate::rings::Rings;
 use crate::slots::Logs;
 use crate::turning::Conducts;
@@ -294,13 +294,13 @@ impl<N: DriverNaming, L: Logs<N> + Drop, D: Desks<N> + Drop, T: Noting + Drop> W
         &mut self,
         rt: &R,
         event: &Event,
-        foreseen: &Foreseen,
+        draft: &Entry,
     ) -> Result<Made, AllocError>
         requires room { length self.old.history.entries + 1 < 2 ^ 64 }
-        requires come { foreseen.now.come ≡ coming (registry_of self.old.history) event.now foreseen.now.silent }
-        ensures makes { IfOk result (λ made. MakesWith L.did N.home foreseen.now.silent event.now self.old self.new made.response made.decisions made.receipt) }
+        requires come { draft.now.outcome.come ≡ coming (registry_of self.old.history) event.now draft.now.inputs.silent }
+        ensures makes { IfOk result (λ made. MakesWith L.did N.home draft.now.inputs.silent event.now self.old self.new made.response made.decisions made.receipt) }
         ensures ours { IfOk result (λ made. made.receipt.book ≡ N.book) }
-        ensures some { OnErr result (GoesOn (JoinsSome (registry_of self.old.history) foreseen.now.come) (L.did self.old.logs) (L.did self.new.logs)) }
+        ensures some { OnErr result (GoesOn (JoinsSome (registry_of self.old.history) draft.now.outcome.come) (L.did self.old.logs) (L.did self.new.logs)) }
         ensures err { OnErr result (self.new ≡ record self.old { logs = self.new.logs }) }
     {
         let Some(publisher) = &self.publisher else {
@@ -313,7 +313,7 @@ impl<N: DriverNaming, L: Logs<N> + Drop, D: Desks<N> + Drop, T: Noting + Drop> W
             publisher.newest(),
             &mut self.room,
             event,
-            foreseen,
+            draft,
         )?;
         self.commit(rt, ready)
     }
@@ -340,26 +340,48 @@ impl<N: DriverNaming, L: Logs<N> + Drop, D: Desks<N> + Drop, T: Noting + Drop> W
         &mut self,
         rt: &R,
         event: &Event,
-        foreseen: &Foreseen,
+        draft: &Entry,
     ) -> Result<Made, AllocError>
         requires room { length self.old.history.entries + 1 < 2 ^ 64 }
-        requires come { foreseen.now.come ≡ coming (registry_of self.old.history) event.now foreseen.now.silent }
-        ensures makes { IfOk result (λ made. MakesWith L.did N.home foreseen.now.silent event.now self.old self.new made.response made.decisions made.receipt) }
+        requires come { draft.now.outcome.come ≡ coming (registry_of self.old.history) event.now draft.now.inputs.silent }
+        ensures makes { IfOk result (λ made. MakesWith L.did N.home draft.now.inputs.silent event.now self.old self.new made.response made.decisions made.receipt) }
         ensures ours { IfOk result (λ made. made.receipt.book ≡ N.book) }
-        ensures undone { OnErr result (GoesOn (Then (JoinsSome (registry_of self.old.history) foreseen.now.come) (Each (Settles (registry_of self.old.history)) foreseen.now.come)) (L.did self.old.logs) (L.did self.new.logs)) }
+        ensures undone { OnErr result (GoesOn (Then (JoinsSome (registry_of self.old.history) draft.now.outcome.come) (Each (Settles (registry_of self.old.history)) draft.now.outcome.come)) (L.did self.old.logs) (L.did self.new.logs)) }
         ensures err { OnErr result (self.new ≡ record self.old { logs = self.new.logs }) }
     {
-        let taken = self.take_joined(rt, event, foreseen);
+        let taken = self.take_joined(rt, event, draft);
         if taken.is_err() {
-            self.settle_pairs(rt, foreseen.come.as_slice());
+            self.settle_pairs(rt, draft.outcome.come.as_slice());
         }
         taken
     }
 
+    /// A draft with which no pair comes is the entry that is committed.
+    fn take_draft<R: Wait>(&mut self, rt: &R, draft: Entry) -> Result<Made, AllocError>
+        requires room { length self.old.history.entries + 1 < 2 ^ 64 }
+        requires planned { IsPlannedOn (registry_of self.old.history) draft }
+        requires sound { IsSound (state_after (registry_of self.old.history) draft.event draft.inputs) }
+        requires ends { draft.inputs.ends ≡ [] }
+        requires none { draft.outcome.come ≡ [] }
+        ensures makes { IfOk result (λ made. MakesWith L.did N.home draft.inputs.silent draft.event self.old self.new made.response made.decisions made.receipt) }
+        ensures ours { IfOk result (λ made. made.receipt.book ≡ N.book) }
+        ensures err { OnErr result (self.new ≡ self.old) }
+    {
+        let Some(publisher) = &self.publisher else {
+            unreachable!()
+        };
+        let ready = ready_of(self.alloc, publisher.newest(), draft)?;
+        self.commit(rt, ready)
+    }
+
     /// The logs are asked which images are silent, and it is found which pairs would come.
-    fn foresee_event<R: Wait>(&mut self, rt: &R, event: &Event) -> Result<Foreseen, AllocError>
-        ensures silent { IfOk result (λ foreseen. GoesOn (AreSilent (registry_of self.old.history) event.now foreseen.silent) (L.did self.old.logs) (L.did self.new.logs)) }
-        ensures come { IfOk result (λ foreseen. foreseen.come ≡ coming (registry_of self.old.history) event.now foreseen.silent) }
+    fn foresee_event<R: Wait>(&mut self, rt: &R, event: &Event) -> Result<Entry, AllocError>
+        ensures planned { IfOk result (λ draft. IsPlannedOn (registry_of self.old.history) draft) }
+        ensures sound { IfOk result (λ draft. IsSound (state_after (registry_of self.old.history) draft.event draft.inputs)) }
+        ensures event_is { IfOk result (λ draft. draft.event ≡ event.now) }
+        ensures ends { IfOk result (λ draft. draft.inputs.ends ≡ []) }
+        ensures silent { IfOk result (λ draft. GoesOn (AreSilent (registry_of self.old.history) event.now draft.inputs.silent) (L.did self.old.logs) (L.did self.new.logs)) }
+        ensures come { IfOk result (λ draft. draft.outcome.come ≡ coming (registry_of self.old.history) event.now draft.inputs.silent) }
         ensures err { OnErr result (GoesOn (All LeavesIt) (L.did self.old.logs) (L.did self.new.logs)) }
         ensures same { self.new ≡ record self.old { logs = self.new.logs } }
     {
@@ -380,8 +402,12 @@ impl<N: DriverNaming, L: Logs<N> + Drop, D: Desks<N> + Drop, T: Noting + Drop> W
         ensures undone { OnErr result (GoesOn (Undoes (registry_of self.old.history) event.now) (L.did self.old.logs) (L.did self.new.logs)) }
         ensures err { OnErr result (self.new ≡ record self.old { logs = self.new.logs }) }
     {
-        let foreseen = self.foresee_event(rt, event)?;
-        self.take_foreseen(rt, event, &foreseen)
+        let draft = self.foresee_event(rt, event)?;
+        if draft.outcome.come.is_empty() {
+            self.take_draft(rt, draft)
+        } else {
+            self.take_foreseen(rt, event, &draft)
+        }
     }
 
     /// The desk is told the answer to a question, if there is one, and a client that attached gets its ring.
@@ -449,6 +475,16 @@ impl<N: DriverNaming, L: Logs<N> + Drop, D: Desks<N> + Drop, T: Noting + Drop> W
         self.report(rt, Question::of(event), Some(response), receipt);
     }
 
+    /// An event was taken out of the queue.
+    fn acknowledge(&mut self, event: &Event)
+        ensures acknowledges { AcknowledgesEvent event.now self.old.rings self.new.rings }
+        ensures same { self.new ≡ record self.old { rings = self.new.rings } }
+    {
+        if let Event::Command { client, .. } = event {
+            self.rings.acknowledge(*client);
+        }
+    }
+
     /// An entry is made of the event, and all that follows it is done; or it is refused.
     fn serve<R: Wait>(&mut self, rt: &R, event: &Event) -> bool
         requires room { length self.old.history.entries + 1 < 2 ^ 64 }
@@ -496,15 +532,16 @@ impl<N: DriverNaming, L: Logs<N> + Drop, D: Desks<N> + Drop, T: Noting + Drop> C
     for Works<N, L, D, T> {
     ghost history = { events_made };
 
-    ghost does = { λ old event new. Does L.did D.told N.home T.wrote old event new };
+    ghost does = { λ old event new. Taking (Does L.did D.told N.home T.wrote) old event new };
 
-    ghost misses = { λ old event new. Misses L.did D.told N.home old event new };
+    ghost misses = { λ old event new. Taking (Misses L.did D.told N.home) old event new };
 
     fn is_full(&self) -> bool {
         self.number() == u64::MAX
     }
 
     fn conduct<R: Wait>(&mut self, rt: &R, event: Event) -> bool {
+        self.acknowledge(&event);
         self.serve(rt, &event)
     }
 }

@@ -19,7 +19,9 @@ use Rattle.media_agents.specs.Journals.{audited_all, audited_if, stamp_of}
 use Rattle.media_driver.specs.Steps.{IsLocked, offer_answer, poll_answer, poll_of}
 use Rattle.media_driver.specs.declared.faults.LookFault.{LookFault}
 use Rattle.media_driver.specs.declared.faults.OfferFault.{OfferFault}
+use Rattle.media_driver.specs.declared.faults.OfferFault.TheVariants as offers
 use Rattle.media_driver.specs.declared.faults.PollFault.{PollFault}
+use Rattle.media_driver.specs.declared.faults.PollFault.TheVariants as polls
 use Rattle.policy_core.specs.declared.decision.Decision.{Decision}
 use Rattle.published_registry.specs.Histories.{History, registry_of}
 
@@ -56,6 +58,16 @@ abbrev pub ReportsPoll : Home → History → ℕ → ℕ → ℕ → ℕ → Re
 ReportsPoll home look client subscription source limit result =
     ReportsStep home (poll_of (registry_of look) client subscription source limit) (decision_for source (poll_decision (registry_of look) client subscription))
     IsGone (poll_answer result) (stamp_of look)
+
+-- nothing was decided by a step that was not taken: there was no look, or no memory
+abbrev pub KeepsOffered : OfferFault → KeptOf Dated → KeptOf Dated → Type 0
+KeepsOffered offers.NoLook old new = new ≡ old
+KeepsOffered fault old new = Unit {0}
+
+abbrev pub KeepsPolled : PollFault → KeptOf Dated → KeptOf Dated → Type 0
+KeepsPolled polls.NoLook old new = new ≡ old
+KeepsPolled polls.NoMemory old new = new ≡ old
+KeepsPolled fault old new = Unit {0}
 
 -- ---- a look at counters
 

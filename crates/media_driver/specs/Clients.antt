@@ -5,12 +5,9 @@ use Rattle.audit_ring.specs.Audit.{KeptOf}
 use Rattle.media_agents.specs.declared.journal.Dated.{Dated}
 use Rattle.command_codec.specs.Command.{command_bytes}
 use Rattle.command_codec.specs.declared.command.Body.{Body}
-use Rattle.command_queue.specs.declared.known.Facts.{Facts}
-use Rattle.command_queue.specs.Facts.{WasFull}
-use Rattle.command_queue.specs.Sent.{Sent}
-use Rattle.driver_core.specs.declared.event.Event.{Event}
 use Rattle.driver_core.specs.declared.event.Event.TheVariants.{Command}
 use Rattle.media_agents.specs.Mails.{Posted}
+use Rattle.media_agents.specs.Sharing.{IsFull, Sends, SendsNone, Sharing}
 use Rattle.media_driver.specs.declared.faults.LookFault.{LookFault}
 use Rattle.media_driver.specs.declared.faults.LookFault.TheVariants as looks
 use Rattle.media_driver.specs.declared.faults.PushFault.{PushFault}
@@ -18,7 +15,7 @@ use Rattle.media_driver.specs.declared.faults.PushFault.TheVariants as pushes
 use Rattle.published_registry.specs.Histories.{History, IsContinuedBy, Known}
 
 -- the id by which the driver knows it; the correlation id of its last command; the greatest moment of its commands and offers;
--- the history that it saw or learned of; what it pushed; the mails that it took out of its ring, and those that it saw there;
+-- the history that it saw or learned of; what was pushed of it, and how much of that it knows to be acknowledged; the mails that it took out of its ring, and those that it saw there;
 -- how many of its messages were counted, and whether one was not, since no more could be; and what is kept of what was decided for
 -- it
 pub record Attached : Type 0 where
@@ -26,17 +23,17 @@ pub record Attached : Type 0 where
   pub correlation : ℕ
   pub moment : ℕ
   pub known : History
-  pub queue : Sent Event
+  pub commands : Sharing
   pub taken : List Posted
   pub waiting : List Posted
   pub counted : ℕ
   pub ended : Bool
   pub audited : KeptOf Dated
 
--- what a client has of a driver: the history that its pass saw or learned of, and what was pushed by it
+-- what a client has of a driver: the history that its pass saw or learned of, and what was pushed of it
 pub record Seated : Type 0 where
   pub known : History
-  pub queue : Sent Event
+  pub commands : Sharing
 
 -- ---- a command
 
@@ -48,42 +45,36 @@ next_correlation correlation = min (correlation + 1) (2 ^ 64 - 1)
 pub record Pushes (old new : Attached) (body : Body) (correlation : ℕ) : Type 0 where
   pub correlation_is : correlation ≡ next_correlation old.correlation
   pub later : old.moment ≤ new.moment
-  pub new_is :
-      new
-      ≡ record old {
-        correlation = correlation;
-        moment = new.moment;
-        queue = record old.queue {
-          sent =
-              old.queue.sent
-              ++ Command new.moment old.number (command_bytes (record { client = old.number; correlation = correlation; body = body })) ∷ [];
-        };
-      }
+  pub sends :
+      Sends (Command new.moment old.number (command_bytes (record { client = old.number; correlation = correlation; body = body })))
+      old.commands new.commands
+  pub new_is : new ≡ record old { correlation = correlation; moment = new.moment; commands = new.commands }
 
--- a push is refused as full only where the queue held 1,024 events at one moment
-abbrev pub MayRefuse : Sent Event → PushFault → Type 0
-MayRefuse queue pushes.QueueFull = (facts : Facts Event) × WasFull queue.total queue.number queue.sent facts
-MayRefuse queue pushes.NoMemory = Unit {0}
+-- nothing is pushed, and nothing else changes
+pub record PushesNone (old new : Attached) : Type 0 where
+  pub sends : SendsNone old.commands new.commands
+  pub new_is : new ≡ record old { commands = new.commands }
+
+-- a push is refused as full only where all of the client's share was used up, or the queue held 1,024 events at one moment
+abbrev pub MayRefuse : Sharing → PushFault → Type 0
+MayRefuse commands pushes.QueueFull = IsFull commands
+MayRefuse commands pushes.NoMemory = Unit {0}
 
 -- the command is pushed; or it is refused, and nothing changes
 abbrev pub Commands : Attached → Attached → Body → Result ℕ PushFault → Type 0
 Commands old new body (Ok correlation) = Pushes old new body correlation
-Commands old new body (Err fault) = (new ≡ old) × MayRefuse old.queue fault
+Commands old new body (Err fault) = PushesNone old new × MayRefuse new.commands fault
 
 -- bytes are pushed as a command over the client's handle, at a moment not before its last one; nothing else changes
 pub record Hands (old new : Attached) (bytes : List ℕ) : Type 0 where
   pub later : old.moment ≤ new.moment
-  pub new_is :
-      new
-      ≡ record old {
-        moment = new.moment;
-        queue = record old.queue { sent = old.queue.sent ++ Command new.moment old.number bytes ∷ [] };
-      }
+  pub sends : Sends (Command new.moment old.number bytes) old.commands new.commands
+  pub new_is : new ≡ record old { moment = new.moment; commands = new.commands }
 
 -- they are; or they are refused, and nothing changes
 abbrev pub HandsOn : {T : Type 0} → Attached → Attached → List ℕ → Result T PushFault → Type 0
 HandsOn old new bytes (Ok _) = Hands old new bytes
-HandsOn old new bytes (Err fault) = (new ≡ old) × MayRefuse old.queue fault
+HandsOn old new bytes (Err fault) = PushesNone old new × MayRefuse new.commands fault
 
 -- ---- a look
 

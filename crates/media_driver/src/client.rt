@@ -7,7 +7,7 @@ use crate::offering::Found;
 use audit_ring::AuditOf;
 use decision_cache::Cache;
 use log_slots::{Amount, AtEnd, OfClients};
-use media_agents::{Clock, Dated, DriverNaming, EventSender, LogAt, Mail, Slots};
+use media_agents::{Clock, CommandSender, Dated, DriverNaming, LogAt, Mail, Slots};
 use published_registry::{Pass, Receipt, caches_stay_right_of_later_looks};
 use rtrb::Consumer;
 use std::alloc::Global;
@@ -27,7 +27,8 @@ pub struct Client<N: DriverNaming, C: Clock> {
     pub(crate) moment: u64,
     /// It is taken out for as long as a look lasts.
     pub(crate) pass: Option<Pass>,
-    pub(crate) queue: EventSender,
+    /// Its way into the queue, within its share.
+    pub(crate) queue: CommandSender,
     pub(crate) mails: Consumer<Mail<N>, Global>,
     /// Verdicts that the policy gave lately.
     pub(crate) cache: Cache,
@@ -64,7 +65,7 @@ impl<N: DriverNaming, C: Clock> Model for Client<N, C> {
       correlation = client.correlation;
       moment = client.moment;
       known = history_in client.pass;
-      queue = client.queue;
+      commands = client.queue;
       taken = received client.mails;
       waiting = known_items client.mails;
       counted = client.counted.number;

@@ -1,5 +1,6 @@
 //! The commands of a client: each is one push into the driver's queue. It gives the command's correlation id, by which its
-//! reply names it; a push that is refused uses none.
+//! reply names it; a push that is refused uses none. `QueueFull` refuses it where 256 commands of the client wait in the queue
+//! as far as it knows, or where the queue held 1,024 events at one moment.
 
 ghost use Rattle.command_codec.specs.Command.{command_bytes};
 ghost use Rattle.command_codec.specs.declared.command.Body.TheVariants as bodies;
@@ -30,7 +31,8 @@ impl<N: DriverNaming, C: Clock> Client<N, C> {
     /// Pushes bytes over this client's handle.
     ///
     /// # Errors
-    /// `QueueFull`, only where the queue held 1,024 events at one moment. Nothing is changed then.
+    /// `QueueFull`, only where 256 more were pushed than the client knows the conductor to have taken, or where the queue held
+    /// 1,024 events at one moment. Nothing is pushed then.
     fn hand_on<R: Wait>(&mut self, rt: &R, bytes: Received) -> Result<(), PushFault>
         ensures { HandsOn self.old self.new bytes result }
     {
@@ -49,7 +51,7 @@ impl<N: DriverNaming, C: Clock> Client<N, C> {
     /// greatest `u64`.
     ///
     /// # Errors
-    /// `QueueFull`, only where the queue held 1,024 events at one moment, or `NoMemory`. Nothing is changed then.
+    /// `QueueFull` as for [`Client::command`], or `NoMemory`. Nothing is pushed then, and no id is used.
     fn push<R: Wait>(&mut self, rt: &R, body: Body) -> Result<u64, PushFault>
         ensures { Commands self.old self.new body result }
     {
@@ -70,7 +72,8 @@ impl<N: DriverNaming, C: Clock> Client<N, C> {
     /// them. They have a correlation id of their own.
     ///
     /// # Errors
-    /// As for every command.
+    /// `QueueFull`, only where 256 more were pushed than the client knows the conductor to have taken, or where the queue held
+    /// 1,024 events at one moment; or `NoMemory`. Nothing is pushed then.
     pub fn command<R: Wait>(&mut self, rt: &R, bytes: &[u8]) -> Result<(), PushFault>
         ensures { HandsOn self.old self.new bytes.now result }
     {

@@ -95,7 +95,7 @@ impl<
     R: Threads + Wait + time::Clock + Copy + Drop + Send + Sync + 'static,
 > Driver<N, R, MachineClock<R>> {
     /// Starts a driver. The machine's time is read this once: from here on the driver's moments go on by a clock that nobody
-    /// sets. An agent that has nothing to do spins at first, then yields, and then sleeps, up to a millisecond.
+    /// sets. An agent that has nothing to do spins at first, then yields, and then sleeps, as [`Backoff`] says.
     ///
     /// # Errors
     /// `Clock` where the machine's time is not known; else as [`Driver::start_gated`]. The parts are let go then, and no thread
@@ -109,11 +109,21 @@ impl<
         requires { AreNamed N.home N.ledger N.parts N.client_ledger N.client_parts N.book parts }
         ensures { IfOk result (λ driver. (driver.out ≡ 0) × (driver.counted ≡ 0) × (driver.queue.sent ≡ []) × (driver.elicited ≡ [])) }
     {
-        match MachineClock::start(rt) {
-            Ok(clock) => Driver::start_gated(rt, alloc, parts, wire, clock, Backoff::new(rt)),
+        let clock = match MachineClock::start(rt) {
+            Ok(clock) => clock,
             Err(fault) => {
                 drop(parts.end(&rt));
-                Err(StartFault::Clock(fault))
+                return Err(StartFault::Clock(fault));
+            }
+        };
+        match parts.bell() {
+            Ok(bell) => {
+                let gate = Backoff::new(rt, bell);
+                Driver::start_gated(rt, alloc, parts, wire, clock, gate)
+            }
+            Err(_) => {
+                drop(parts.end(&rt));
+                Err(StartFault::NoMemory)
             }
         }
     }

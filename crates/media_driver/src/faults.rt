@@ -62,7 +62,7 @@ pub enum ReloadFault {
 /// Why a command does not reach the driver.
 #[derive(Clone, Copy, Debug, PartialEq, Eq)]
 pub enum PushFault {
-    /// The queue of commands is full.
+    /// The queue of commands is full, or 256 of the client's own wait there: its share.
     QueueFull,
     NoMemory,
 }

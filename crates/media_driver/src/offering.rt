@@ -1,13 +1,15 @@
 //! A client offers a message.
 
+ghost use Rattle.audit_ring.specs.Audit.{KeptOf};
 ghost use Rattle.driver_core.specs.Cached.{AreCached};
 ghost use Rattle.driver_steps.specs.declared.answer.Answer.TheVariants.{Offered as OfferedAs};
 ghost use Rattle.driver_steps.specs.declared.answer.Offered.TheVariants.{Closed};
 ghost use Rattle.driver_steps.specs.Decided.{offer_decision};
 ghost use Rattle.driver_steps.specs.Moves.{offer_move};
 ghost use Rattle.log_slots.specs.Counting.{taken_by};
+ghost use Rattle.media_agents.specs.declared.journal.Dated.{Dated};
 ghost use Rattle.media_agents.specs.Journals.{stamp_of};
-ghost use Rattle.media_driver.specs.Audits.{IsDecided, ReportsOffer};
+ghost use Rattle.media_driver.specs.Audits.{IsDecided, KeepsOffered, ReportsOffer};
 ghost use Rattle.media_driver.specs.Clients.{Looks};
 ghost use Rattle.media_driver.specs.Steps.{Counts, IsOffer, IsStep, offer_answer};
 ghost use Rattle.published_registry.specs.Histories.{IsContinuedBy, registry_of};
@@ -106,6 +108,7 @@ fn offer_once<N: DriverNaming, R: Wait>(
 fn position_of(told: &Stepped) -> Result<u64, OfferFault>
     ensures answer { IfSome (offer_answer result) (λ answer. told.now.answer ≡ answer) }
     ensures counted { IfErr result (λ _. taken_by told.now.answer ≡ 0) }
+    ensures seen { (old new : KeptOf Dated) → IfErr result (λ fault. KeepsOffered fault old new) }
 {
     match &told.answer {
         Answer::Offered(Offered::At(position)) => Ok(*position),
@@ -176,6 +179,7 @@ impl<N: DriverNaming, C: Clock> Client<N, C> {
         ensures counted { Counts result self.old self.new }
         ensures step { IsOffer N.home (registry_of self.new.known) self.new.moment self.old.number registration message.now result }
         ensures audit { ReportsOffer N.home self.new.known self.new.moment self.old.number registration message.now result self.old.audited self.new.audited }
+        ensures unseen { IfErr result (λ fault. KeepsOffered fault self.old.audited self.new.audited) }
     {
         caches_stay_right_of_later_looks();
         let Some(found) = self.log_of(registration) else {

@@ -7,6 +7,7 @@ ghost use Rattle.published_registry.specs.Histories.{registry_of};
 ghost use Rattle.std.specs.Prelude.{◌≡◌, ◌+◌, ◌<◌, ◌≤◌, [], All, IfOk, length};
 
 use crate::faults::MakeFault;
+use crate::starting::shared;
 use command_queue::{Sender, Taker};
 use driver_core::{Event, Peer, Registry, Settings};
 use log_arena::Arena;
@@ -15,8 +16,9 @@ use policy_core::Policy;
 use published_registry::{Pass, Publisher};
 use std::alloc::{AllocError, Global};
 use std::marker::Model;
-use std::sync::Wait;
 use std::sync::ledger::Blank;
+use std::sync::{Arc, Wait};
+use std::thread::Parker;
 
 /// How many clients may be out at once.
 pub(crate) const CLIENTS: u32 = 64;
@@ -42,6 +44,8 @@ pub(crate) struct Pieces {
     pub(crate) store: Store,
     pub(crate) hands: Hands,
     pub(crate) blanks: Blanks,
+    /// It is rung where an event is pushed, and wakes the conductor.
+    pub(crate) bell: Arc<Parker>,
 }
 
 /// What the conductor alone works with.
@@ -56,7 +60,7 @@ pub(crate) struct Store {
 #[derive(Drop)]
 pub(crate) struct Hands {
     pub(crate) passes: Vec<Pass>,
-    pub(crate) senders: Vec<Sender<Event>>,
+    pub(crate) senders: Vec<EventSender>,
 }
 
 /// The ledgers, before they are opened.
@@ -118,10 +122,32 @@ impl Hands {
         ensures passes { self.new.passes ≡ self.old.passes }
     {
         match self.senders.pop() {
-            Some(sender) => EventSender::new(sender),
+            Some(sender) => sender,
             None => unreachable!(),
         }
     }
+}
+
+/// Who sends events by these, each with the conductor's bell.
+fn with_bell(
+    alloc: Global,
+    bell: &Arc<Parker>,
+    senders: Vec<Sender<Event>>,
+) -> Result<Vec<EventSender>, AllocError>
+    requires unsent { All (λ sender. sender.sent ≡ []) senders.items }
+    requires senders { length senders.items ≡ 66 }
+    ensures unsent { IfOk result (λ made. All (λ sender. sender.sent ≡ []) made.items) }
+    ensures senders { IfOk result (λ made. length made.items ≡ 66) }
+{
+    let mut senders = senders;
+    let mut made = Vec::with_capacity(alloc, CLIENTS as usize + 2)?;
+    for _given in 0..CLIENTS + 2 {
+        match senders.pop() {
+            Some(sender) => made.push(EventSender::new(sender, Arc::try_clone(bell)?))?,
+            None => unreachable!(),
+        }
+    }
+    Ok(made)
 }
 
 /// The region for the logs, and the queue.
@@ -153,6 +179,8 @@ impl Parts {
     {
         let registry = Registry::new(alloc, settings, policy, peers)?;
         let (store, senders) = make_store(alloc, settings)?;
+        let bell = shared(alloc, Parker::new())?;
+        let senders = with_bell(alloc, &bell, senders)?;
         match published_registry::make(rt, alloc, registry, CLIENTS + 2) {
             Ok((publisher, passes)) => Ok(Parts {
                 publisher,
@@ -160,6 +188,7 @@ impl Parts {
                     settings,
                     store,
                     hands: Hands { passes, senders },
+                    bell,
                     blanks: Blanks {
                         messages: Blank::new(CLIENTS as u64 + 1 + PUBLICATIONS as u64),
                         clients: Blank::new(CLIENTS as u64 + 1),
@@ -169,6 +198,11 @@ impl Parts {
             Err(published_registry::MakeFault::NoMemory) => Err(MakeFault::NoMemory),
             Err(published_registry::MakeFault::NoPass) => Err(MakeFault::NoPass),
         }
+    }
+
+    /// What wakes the conductor, for the gate of a driver that is made of these parts.
+    pub fn bell(&self) -> Result<Arc<Parker>, AllocError> {
+        Arc::try_clone(&self.pieces.bell)
     }
 
     /// Lets the parts go without a driver, and gives the registry that was opened.

@@ -1,12 +1,14 @@
 //! A client polls a log.
 
+ghost use Rattle.audit_ring.specs.Audit.{KeptOf};
 ghost use Rattle.driver_core.specs.Cached.{AreCached};
 ghost use Rattle.driver_steps.specs.declared.answer.Answer.TheVariants.{Gone};
 ghost use Rattle.driver_steps.specs.Decided.{decision_for, poll_decision};
 ghost use Rattle.driver_steps.specs.Moves.{Move, WholeLog};
 ghost use Rattle.log_arena.specs.Homes.{Home};
+ghost use Rattle.media_agents.specs.declared.journal.Dated.{Dated};
 ghost use Rattle.media_agents.specs.Journals.{stamp_of};
-ghost use Rattle.media_driver.specs.Audits.{IsDecided, ReportsPoll};
+ghost use Rattle.media_driver.specs.Audits.{IsDecided, KeepsPolled, ReportsPoll};
 ghost use Rattle.media_driver.specs.Clients.{Consults, Looks};
 ghost use Rattle.media_driver.specs.Steps.{IsGiving, IsPoll, IsStep, MayLack, poll_answer, poll_of};
 ghost use Rattle.published_registry.specs.Histories.{IsContinuedBy, registry_of};
@@ -19,7 +21,7 @@ use crate::pacing::next_rest;
 use decision_cache::Cache;
 use driver_core::View;
 use driver_steps::{Answer, FragmentCopies, Told};
-use log_slots::{LogSlot, Slot, lock_soon, rest};
+use log_slots::{Held, lock_soon, rest};
 use media_agents::{Clock, DriverNaming, LogAt, Slots, Stamp, Stepped};
 use published_registry::{Pass, caches_stay_right_of_later_looks};
 use std::alloc::{AllocError, Global};
@@ -54,10 +56,10 @@ fn stamped(told: Result<Told, AllocError>, stamp: Stamp) -> Result<Stepped, Allo
     Ok(Stepped::of(told?, stamp))
 }
 
-/// One hold of the lock of a publication's log, with one look within it.
-fn poll_publication<N: DriverNaming, R: Wait>(
+/// One hold of the lock of a log, with one look within it.
+fn poll_at<N: DriverNaming, H: Held<N>, R: Wait>(
     rt: &R,
-    slot: &Mutex<Slot<N>>,
+    slot: &Mutex<H>,
     source: u64,
     pass: Pass,
     cache: &mut Cache,
@@ -87,40 +89,7 @@ fn poll_publication<N: DriverNaming, R: Wait>(
     }
 }
 
-/// One hold of the lock of an image's log, with one look within it.
-fn poll_image<N: DriverNaming, R: Wait>(
-    rt: &R,
-    slot: &Mutex<LogSlot<N>>,
-    source: u64,
-    pass: Pass,
-    cache: &mut Cache,
-    alloc: Global,
-    client: u64,
-    subscription: u64,
-    limit: u32,
-) -> (Pass, Option<Result<Stepped, AllocError>>)
-    requires right { AreCached (registry_of pass) cache.old }
-    ensures known { IsContinuedBy pass result.0 }
-    ensures right { AreCached (registry_of result.0) cache.new }
-    ensures stamp { IfSome result.1 (λ told. IfOk told (λ told. told.stamp ≡ stamp_of result.0)) }
-    ensures step { IfSome result.1 (λ told. IfOk told (λ told. IsStep N.home (poll_of (registry_of result.0) client subscription source limit) Gone told.answer)) }
-    ensures memory { IfSome result.1 (λ told. OnErr told (IsGiving N.home (poll_of (registry_of result.0) client subscription source limit))) }
-    ensures decides { IfSome result.1 (λ told. IfOk told (λ told. IsDecided N.home (poll_of (registry_of result.0) client subscription source limit) (decision_for source (poll_decision (registry_of result.0) client subscription)) Gone told.answer told.decision)) }
-{
-    caches_stay_right_of_later_looks();
-    let mut slot = lock_soon(rt, slot);
-    slot.holds();
-    match pass.enter() {
-        Ok(look) => {
-            let told = slot.poll(&look, cache, alloc, client, subscription, source, limit);
-            let told = stamped(told, Stamp::of(&look));
-            (look.leave(), Some(told))
-        }
-        Err(pass) => (pass, None),
-    }
-}
-
-/// The same, of a log of either kind. `None` where there is no look.
+/// The same, in the slot that it names. `None` where there is no look.
 fn poll_once<N: DriverNaming, R: Wait>(
     rt: &R,
     slots: &Slots<N>,
@@ -143,7 +112,7 @@ fn poll_once<N: DriverNaming, R: Wait>(
     let place = at.slot as usize;
     if at.published {
         match slots.publications.get(place) {
-            Some(slot) => poll_publication(
+            Some(slot) => poll_at(
                 rt,
                 slot,
                 at.source,
@@ -158,7 +127,7 @@ fn poll_once<N: DriverNaming, R: Wait>(
         }
     } else {
         match slots.images.get(place) {
-            Some(slot) => poll_image(
+            Some(slot) => poll_at(
                 rt,
                 slot,
                 at.source,
@@ -178,6 +147,7 @@ fn poll_once<N: DriverNaming, R: Wait>(
 fn fragments_of(told: Stepped) -> Result<FragmentCopies, PollFault>
     ensures answer { IfSome (poll_answer result) (λ answer. told.answer ≡ answer) }
     ensures memory { (home : Home) (move : WholeLog → Move) → IfErr result (λ fault. MayLack home move fault) }
+    ensures seen { (old new : KeptOf Dated) → IfErr result (λ fault. KeepsPolled fault old new) }
 {
     match told.answer {
         Answer::Polled(fragments) => Ok(fragments),
@@ -227,6 +197,7 @@ impl<N: DriverNaming, C: Clock> Client<N, C> {
         ensures step { IsPoll N.home (registry_of self.new.known) self.old.number subscription source limit result }
         ensures memory { IfErr result (λ fault. MayLack N.home (poll_of (registry_of self.new.known) self.old.number subscription source limit) fault) }
         ensures audit { ReportsPoll N.home self.new.known self.old.number subscription source limit result self.old.audited self.new.audited }
+        ensures unseen { IfErr result (λ fault. KeepsPolled fault self.old.audited self.new.audited) }
     {
         caches_stay_right_of_later_looks();
         let Some(found) = self.log_at(source) else {

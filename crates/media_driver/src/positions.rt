@@ -11,7 +11,7 @@ ghost use Rattle.std.specs.Prelude.{◌≡◌, IfNone, IfSome};
 use crate::client::Client;
 use crate::faults::PositionFault;
 use driver_core::{Registry, View};
-use log_slots::{LogSlot, PublicationPositions, ReadingPositions, Slot, lock_soon};
+use log_slots::{Held, PublicationPositions, ReadingPositions, Slot, lock_soon};
 use media_agents::{Clock, DriverNaming, LogAt, Slots};
 use published_registry::{Pass, caches_stay_right_of_later_looks};
 use std::sync::{Mutex, Wait};
@@ -116,10 +116,10 @@ fn find_reading(
     }
 }
 
-/// How far a subscription has come with a publication, in one hold of the lock of its log.
-fn show_published<N: DriverNaming, R: Wait>(
+/// How far a subscription has come with a log, in one hold of its lock.
+fn show_in<N: DriverNaming, H: Held<N>, R: Wait>(
     rt: &R,
-    slot: &Mutex<Slot<N>>,
+    slot: &Mutex<H>,
     source: u64,
     subscription: u64,
 ) -> Option<ReadingPositions>
@@ -130,21 +130,7 @@ fn show_published<N: DriverNaming, R: Wait>(
     slot.reading(source, subscription)
 }
 
-/// How far a subscription has come with an image, in one hold of the lock of its log.
-fn show_image<N: DriverNaming, R: Wait>(
-    rt: &R,
-    slot: &Mutex<LogSlot<N>>,
-    source: u64,
-    subscription: u64,
-) -> Option<ReadingPositions>
-    ensures { ShowsReading N.home source subscription result }
-{
-    let slot = lock_soon(rt, slot);
-    slot.holds();
-    slot.reading(source, subscription)
-}
-
-/// The same, of a log of either kind. `None` where there is no such slot.
+/// The same, in the slot that it names. `None` where there is none.
 fn show_reading<N: DriverNaming, R: Wait>(
     rt: &R,
     slots: &Slots<N>,
@@ -156,12 +142,12 @@ fn show_reading<N: DriverNaming, R: Wait>(
     let place = at.slot as usize;
     if at.published {
         match slots.publications.get(place) {
-            Some(slot) => Some(show_published(rt, slot, at.source, subscription)),
+            Some(slot) => Some(show_in(rt, slot, at.source, subscription)),
             None => None,
         }
     } else {
         match slots.images.get(place) {
-            Some(slot) => Some(show_image(rt, slot, at.source, subscription)),
+            Some(slot) => Some(show_in(rt, slot, at.source, subscription)),
             None => None,
         }
     }

@@ -1,7 +1,7 @@
 //! What a client has of the driver, and gives back.
 
 use decision_cache::Cache;
-use media_agents::{DriverNaming, EventSender, Mail};
+use media_agents::{CommandSender, DriverNaming, Mail};
 use published_registry::Pass;
 use rtrb::Consumer;
 use std::alloc::Global;
@@ -11,7 +11,7 @@ use std::marker::Model;
 #[derive(Drop)]
 pub(crate) struct Seat<N: DriverNaming> {
     pub(crate) pass: Pass,
-    pub(crate) queue: EventSender,
+    pub(crate) queue: CommandSender,
     pub(crate) mails: Consumer<Mail<N>, Global>,
     /// Verdicts that the policy gave lately.
     pub(crate) cache: Cache,
@@ -25,7 +25,7 @@ impl<N: DriverNaming> Model for Seat<N> {
 
     ghost Value = { Seated };
 
-    ghost view = { λ seat. record { known = seat.pass; queue = seat.queue } };
+    ghost view = { λ seat. record { known = seat.pass; commands = seat.queue } };
 
     ghost invariant = { λ seat. (seat.pass.book ≡ N.book) × AreCached (registry_of seat.pass) seat.cache };
 }

@@ -7,7 +7,7 @@ use crate::mail::REPLIES;
 use crate::parts::{CLIENTS, Hands};
 use crate::seat::Seat;
 use decision_cache::Cache;
-use media_agents::{DriverNaming, Mail, Ring, Rings};
+use media_agents::{Acknowledgements, DriverNaming, Mail, Ring, Rings, share};
 use rtrb::{Consumer, RingBuffer};
 use std::alloc::{AllocError, Global};
 use std::marker::Model;
@@ -85,12 +85,12 @@ impl<N: DriverNaming> Seats<N> {
     }
 }
 
-/// The seat whose replies come by this end of a ring.
+/// The seat whose replies come by this end of a ring, and by what its commands are acknowledged.
 fn make_seat<N: DriverNaming>(
     alloc: Global,
     hands: &mut Hands,
     mails: Consumer<Mail<N>, Global>,
-) -> Result<Seat<N>, AllocError>
+) -> Result<(Seat<N>, Acknowledgements), AllocError>
     requires fresh { AreFresh N.book hands.old.passes.items hands.old.senders.items }
     requires passes { 0 < length hands.old.passes.items }
     requires senders { 0 < length hands.old.senders.items }
@@ -100,13 +100,14 @@ fn make_seat<N: DriverNaming>(
 {
     let cache = Cache::new(alloc)?;
     let pass = hands.pass::<N>();
-    let queue = hands.sender::<N>();
-    Ok(Seat {
+    let (queue, acknowledgements) = share(alloc, hands.sender::<N>())?;
+    let seat = Seat {
         pass,
         queue,
         mails,
         cache,
-    })
+    };
+    Ok((seat, acknowledgements))
 }
 
 /// A seat for each client, and the rings by which the conductor reaches them.
@@ -123,8 +124,9 @@ pub(crate) fn make_seats<N: DriverNaming>(
     let mut seats = Seats::new(alloc)?;
     for place in 0..CLIENTS {
         let (producer, mails) = RingBuffer::new(alloc, REPLIES)?;
-        rings.push(Ring::new(producer))?;
-        seats.give(place as u16, make_seat(alloc, hands, mails)?);
+        let (seat, acknowledgements) = make_seat(alloc, hands, mails)?;
+        rings.push(Ring::new(producer, acknowledgements))?;
+        seats.give(place as u16, seat);
     }
     Ok((Rings::new(rings), seats))
 }

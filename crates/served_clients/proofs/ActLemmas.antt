@@ -35,7 +35,7 @@ acts_as {does = does} acts old new a view each = record { records = a.records; r
 
 commands_one : (old new : Attached) (gave : Result ℕ PushFault) → Commands old new ClientKeepalive gave → new.number ≡ old.number
 commands_one old new (Ok correlation) pushes = ap (λ (a : Attached). a.number) pushes.new_is
-commands_one old new (Err fault) refused = ap (λ (a : Attached). a.number) refused.0
+commands_one old new (Err fault) refused = ap (λ (a : Attached). a.number) refused.0.new_is
 
 stays_one : (old new : Attached) → Stays old new → new.number ≡ old.number
 stays_one old new stays =
@@ -51,7 +51,7 @@ mail_one old new (Some mail) own = ap (λ (a : Attached). a.number) own.new_is
 act_one : (home : Home) (old : Attached) (call : Call) (new : Attached) → IsAct home old call new → new.number ≡ old.number
 act_one home old Stay new act = stays_one old new act
 act_one home old (Command bytes None) new act = ap (λ (a : Attached). a.number) act.new_is
-act_one home old (Command bytes (Some refusal)) new act = ap (λ (a : Attached). a.number) act
+act_one home old (Command bytes (Some refusal)) new act = ap (λ (a : Attached). a.number) act.new_is
 act_one home old (Offer registration message told) new act = ap (λ (a : Attached). a.number) act.same
 act_one home old (Poll subscription source limit written told) new act = ap (λ (a : Attached). a.number) act.looks.new_is
 act_one home old (Mail written told) new act = mail_one old new act.mail act.taken

@@ -13,7 +13,7 @@ use Rattle.log_pairs.specs.Polling.{Fetched}
 use Rattle.log_slots.specs.declared.positions.PublicationPositions.{PublicationPositions as LogPositions}
 use Rattle.media_agents.specs.Mails.{Posted}
 use Rattle.media_driver.specs.Audits.{ReportsList, ReportsOffer, ReportsPoll, ReportsValue}
-use Rattle.media_driver.specs.Clients.{Attached, Commands, Consults, Hands, IsUnseen, Looks, TakesMail}
+use Rattle.media_driver.specs.Clients.{Attached, Commands, Consults, Hands, IsUnseen, Looks, PushesNone, TakesMail}
 use Rattle.media_driver.specs.Positions.{IsPublicationShown, IsReadingShown, publication_of, reading_of}
 use Rattle.media_driver.specs.Steps.{Counts, IsOffer, IsPoll}
 use Rattle.media_driver.specs.declared.faults.LookFault.{LookFault}
@@ -30,10 +30,10 @@ use Rattle.served_clients.specs.Telling.{TellsList, TellsMail, TellsOffer, Tells
 abbrev pub Stays : Attached → Attached → Type 0
 Stays old new = (new ≡ old) ⊎ ((gave : Result ℕ PushFault) × Commands old new ClientKeepalive gave)
 
--- the bytes are pushed over the client's handle, whatever they are; or they are refused, and nothing is done
+-- the bytes are pushed over the client's handle, whatever they are; or they are refused, and nothing is pushed
 abbrev pub HandsBytes : Attached → Attached → List ℕ → Option Refusal → Type 0
 HandsBytes old new bytes None = Hands old new bytes
-HandsBytes old new bytes (Some refusal) = new ≡ old
+HandsBytes old new bytes (Some refusal) = PushesNone old new
 
 -- the client offers a message, by its own registration, under the registry that it sees
 pub record OffersBy (home : Home) (old new : Attached) (registration : ℕ) (message : List ℕ) (told : Result ℕ Refusal) : Type 0 where

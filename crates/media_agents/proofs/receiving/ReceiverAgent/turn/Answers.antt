@@ -8,9 +8,14 @@ use Rattle.media_agents.specs.Agents.{Lists, Receives, Receiving, fresh_set_ups}
 use Rattle.media_agents.specs.declared.listing.ImageAt.{ImageAt}
 use Rattle.media_agents.specs.Eliciting.{Eliciting}
 use Rattle.media_agents.specs.Finding.{AreEndpoints, images_of}
+use Rattle.media_agents.specs.Passing.{next_turn}
 use Rattle.media_agents.specs.SetUps.{SettingUp}
 use Rattle.media_agents.proofs.receiving.ReceiverAgent.turn.Goals as goal
 use Rattle.published_registry.specs.Histories.{History, history_in}
+
+pub returns-clause-turn : goal.returns-clause-turn
+returns-clause-turn g c =
+    (_, _, c.next-self-inside.ensures ∙ ap (next_turn _ _) (ap (λ (agent : Receiving g.row.S.Denot). agent.turn) c.self.view_is))
 
 pub returns-clause-queue : goal.returns-clause-queue
 returns-clause-queue g c =

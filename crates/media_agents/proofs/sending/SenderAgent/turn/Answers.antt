@@ -7,9 +7,14 @@ use Rattle.media_agents.specs.Acts.{GoesOn, Trail}
 use Rattle.media_agents.specs.Agents.{Lists, Sending, Sends}
 use Rattle.media_agents.specs.declared.slots.LogAt.{LogAt}
 use Rattle.media_agents.specs.Finding.{AreControls, publications_of}
+use Rattle.media_agents.specs.Passing.{next_turn}
 use Rattle.media_agents.proofs.sending.SenderAgent.turn.Goals as goal
 use Rattle.published_registry.specs.Histories.{History, IsContinuedBy, history_in}
 use Rattle.std.proofs.Common.{List}
+
+pub returns-clause-turn : goal.returns-clause-turn
+returns-clause-turn g c =
+    (_, _, c.next-self-inside.ensures ∙ ap (next_turn _ _) (ap (λ (agent : Sending g.row.S.Denot). agent.turn) c.self.view_is))
 
 pub returns-clause-known : goal.returns-clause-known
 returns-clause-known g c =

@@ -5,7 +5,7 @@ use Rattle.media_agents.proofs.steps.StepsLogs.close.Goals as goal
 
 pub returns-in-Some-clause-closed : goal.returns-in-Some-clause-closed
 returns-in-Some-clause-closed g c =
-    closes_known g.N.Naming.home c.args.at c.args.at.source c.close_publication.result c.close_publication.ensures.closed
+    closes_known g.N.Naming.home c.args.at c.args.at.source c.close_in.result c.close_in.ensures.closed
 
 pub returns-in-None-clause-closed : goal.returns-in-None-clause-closed
 returns-in-None-clause-closed g c =
@@ -13,7 +13,7 @@ returns-in-None-clause-closed g c =
 
 pub returns-in-Some-get-clause-closed : goal.returns-in-Some-get-clause-closed
 returns-in-Some-get-clause-closed g c =
-    closes_known g.N.Naming.home c.args.at c.args.at.source c.close_image.result c.close_image.ensures.closed
+    closes_known g.N.Naming.home c.args.at c.args.at.source c.close_in-in-Some-get.result c.close_in-in-Some-get.ensures.closed
 
 pub returns-in-None-get-clause-closed : goal.returns-in-None-get-clause-closed
 returns-in-None-get-clause-closed g c =

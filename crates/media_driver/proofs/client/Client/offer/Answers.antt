@@ -39,3 +39,6 @@ returns-clause-audit g c =
     (step_told home _ _ _ (offer_answer c.position_of.result) told.answer told.decision (stamp_of look) c.args.self.now.audited c.tell.new.audit c.position_of.ensures.answer
     (of_some _ c.offer_once-pass.result.1 told c.in-Some-told.is c.offer_once-pass.ensures.decides)
     (c.tell.ensures ∙ ap₂ (λ (stamp : Stamp) (k : KeptOf Dated). audited_if stamp told.decision k) stamped kept))
+
+pub returns-clause-unseen : goal.returns-clause-unseen
+returns-clause-unseen g c = c.position_of.ensures.seen _ _

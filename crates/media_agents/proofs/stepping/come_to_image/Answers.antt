@@ -1,5 +1,0 @@
-use Rattle.media_agents.proofs.LookLemmas.{left}
-use Rattle.media_agents.proofs.stepping.come_to_image.Goals as goal
-
-pub returns-in-Ok-clause-known : goal.returns-in-Ok-clause-known
-returns-in-Ok-clause-known g c = left c.in-Ok.ensures c.leave.ensures
