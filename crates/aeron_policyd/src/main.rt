@@ -1,6 +1,6 @@
 //! `aeron_policyd`: the shared part of an Aeron media driver under a channel policy, on the command line.
 //!
-//! The words of the command line are `command_words`'. The work is done in `policy_answers`, `driver_script` and
+//! The words of its command line are read in `command_line`. The work is done in `policy_answers`, `driver_script` and
 //! `media_driver`. Here are the files, and what the program ends with: 0, or 1 after a fault, a bad line of a script or a
 //! case that fails, or 2 where the command line is at fault, or 3 where messages were lost and later ones came.
 #![tactic(auto)]
@@ -36,7 +36,7 @@ use crate::scripts::run_script;
 use crate::starting::start;
 use clap::ArgMatches;
 use clap::error::ErrorKind;
-use command_words::{Task, command, task_in};
+use command_line::{Task, command, task_in};
 use program_parts::{Disk, Machine};
 use std::io::StdinLock;
 use std::net::{Net, TcpListener, TcpStream};

@@ -3,7 +3,7 @@
 use crate::fault::Fault;
 use crate::print_text;
 use byte_strings::Text;
-use command_words::Messages;
+use command_line::Messages;
 use message_words::{Reading, decode, encode};
 use program_parts::Machine;
 use std::alloc::{AllocError, Global};

@@ -5,7 +5,7 @@ ghost use Rattle.moment_words.specs.Period.{period_of};
 ghost use Rattle.std.specs.Prelude.{◌≡◌, IfErr, IfOk, List, None, Ok, Some, false, is_ok, option_copied, ℕ};
 
 use crate::fault::Fault;
-use command_words::{Asked, Asking};
+use command_line::{Asked, Asking};
 use moment_words::{MomentFault, moment_or, period_of};
 use std::fmt;
 use std::time::Clock;

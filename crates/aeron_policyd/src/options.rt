@@ -7,7 +7,7 @@ use crate::fault::Fault;
 use crate::files::give_up;
 use byte_strings::Text;
 use channel_uri::{Address, Channel, Media, address_of};
-use command_words::Join;
+use command_line::Join;
 use driver_core::{Peer, Settings};
 use media_driver::Elicitation;
 use policy_text::Names;

@@ -5,7 +5,7 @@ use crate::files::{bytes_of, give_up};
 use crate::moments::{BadWord, at_of, soon_of, usual_moment};
 use crate::named::Named;
 use crate::{USAGE, print_text};
-use command_words::{Asked, Asking, Question};
+use command_line::{Asked, Asking, Question};
 use policy_answers::{
     Answer, AskFault, Place, Table, check, check_json, compare, compare_json, decide, decide_json,
     explain, explain_json, find_faults, find_faults_json, refusal, rows_text, show, show_json,

@@ -5,7 +5,7 @@ use crate::replies::Ready;
 use crate::station::{Naks, Station};
 use channel_uri::Address;
 use media_driver::{DriverNaming, OfferFault, PublicationPositions};
-use message_lines::{Cut, Sent};
+use piped_messages::{Cut, Sent};
 use program_parts::{Disk, Input, Machine, pause};
 use std::alloc::{AllocError, Global};
 use stream_gaps::{Gap, NotTaken, TakenUp, Untaken};

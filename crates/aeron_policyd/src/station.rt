@@ -10,7 +10,7 @@ use byte_strings::Text;
 use media_driver::{
     Client, ClientReply, Driver, DriverNaming, MachineClock, Miss, PushFault, ReloadFault,
 };
-use message_lines::Losses;
+use piped_messages::Losses;
 use policy_answers::refusal;
 use policy_query::Document;
 use program_parts::{Disk, Machine, SECOND, report, ticks};

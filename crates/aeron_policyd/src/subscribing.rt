@@ -5,7 +5,7 @@ use crate::station::{Naks, Station};
 use driver_core::Reply;
 use driver_steps::FragmentCopies;
 use media_driver::{ClientReply, DriverNaming, Elicitation, PollFault};
-use message_lines::{Form, Joiner, Received};
+use piped_messages::{Form, Joiner, Received};
 use printed_streams::{Image, Images, Inbox, Output};
 use program_parts::{Disk, Machine, SECOND, pause, report};
 use std::alloc::{AllocError, Global};
