@@ -1,7 +1,7 @@
-//! Tests of `publication_sender`: of the datagrams that are due.
+//! Tests of `log_traffic`: of the datagrams that are due.
 
 use frame_codec::{Flags, StatusMessage};
-use publication_sender::{Pace, StatusAnswer, next_datagram, pass, receive_status};
+use log_traffic::{Pace, StatusAnswer, next_datagram, pass, receive_status};
 use std::alloc::Global;
 use term_log::{Ident, LogKind, TermLog};
 

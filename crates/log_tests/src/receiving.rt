@@ -1,9 +1,9 @@
-//! Tests of `image_receiver`.
+//! Tests of `log_traffic`: of what is received.
 
 use crate::shuffling::hand_in;
 use frame_codec::TermPlace;
 use image_log::{ImageLog, Insert};
-use image_receiver::{Due, Receiver, Status, receive_beat};
+use log_traffic::{Due, Receiver, Status, receive_beat};
 use retransmit_gate::Nak;
 
 // Moments, and whether a NAK and a status message are due then.

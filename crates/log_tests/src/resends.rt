@@ -3,8 +3,8 @@
 use crate::datagrams::{STREAM, cut, status};
 use crate::opening::opened;
 use frame_codec::{Flags, Nak};
+use log_traffic::{Datagrams, NakAnswer, StatusAnswer, answer_nak};
 use policy_core::{Act, Decision, Verdict};
-use publication_sender::{Datagrams, NakAnswer, StatusAnswer, answer_nak};
 use retransmit_gate::Gate;
 use std::alloc::Global;
 use term_log::{Ident, Offer, TermLog};

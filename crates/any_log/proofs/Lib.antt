@@ -1,4 +1,0 @@
-pub mod AnyLemmas
-pub mod PairLemmas
-pub mod SendingLemmas
-pub mod StillLemmas

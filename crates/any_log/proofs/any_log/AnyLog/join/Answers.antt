@@ -1,6 +1,0 @@
-use Rattle.any_log.specs.declared.any_log.AnyLog.TheVariants.{Term}
-use Rattle.any_log.proofs.PairLemmas.{joined_carries}
-use Rattle.any_log.proofs.any_log.AnyLog.join.Goals as goal
-
-pub returns-in-Term-clause-whole : goal.returns-in-Term-clause-whole
-returns-in-Term-clause-whole c = rw (c.in-Term.is, c.join_pair.ensures.joined) (joined_carries c.args.subscription (Term c.in-Term.log))

@@ -1,6 +1,0 @@
-use Rattle.any_log.specs.declared.any_log.AnyLog.TheVariants.{Term}
-use Rattle.any_log.proofs.PairLemmas.{left_carries}
-use Rattle.any_log.proofs.any_log.AnyLog.leave.Goals as goal
-
-pub returns-in-Term-clause-whole : goal.returns-in-Term-clause-whole
-returns-in-Term-clause-whole c = rw (c.in-Term.is, c.leave_pair.ensures) (left_carries c.args.subscription (Term c.in-Term.log))

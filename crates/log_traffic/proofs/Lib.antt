@@ -1,0 +1,10 @@
+pub mod AnyLemmas
+pub mod CuttingLemmas
+pub mod DatagramLemmas
+pub mod HearingLemmas
+pub mod PackingLemmas
+pub mod PairLemmas
+pub mod ReceivingLemmas
+pub mod ResendingLemmas
+pub mod SendingLemmas
+pub mod StillLemmas

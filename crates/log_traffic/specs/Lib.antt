@@ -1,0 +1,15 @@
+pub mod Asking
+pub mod Cutting
+pub mod Datagrams
+pub mod Frames
+pub mod Hearing
+pub mod Held
+pub mod Layout
+pub mod Progress
+pub mod Receiver
+pub mod Receiving
+pub mod Reporting
+pub mod ResendLaws
+pub mod Resending
+pub mod Sending
+pub mod Whole

@@ -1,5 +1,0 @@
-use Rattle.publication_sender.proofs.ResendingLemmas.{asks_same}
-use Rattle.publication_sender.proofs.laws.held_logs_are_asked_as_wholes.Goals as goal
-
-pub returns : goal.returns
-returns c = asks_same
