@@ -4,15 +4,15 @@ use Rattle.std.specs.List.{SwappedAt}
 use Rattle.std.proofs.lemmas.Bool.{cases_lt}
 use Rattle.std.proofs.lemmas.List.{drop-set-lt, length-set, set-set, take-set-le, take_more_set}
 use Rattle.log_readers.specs.Readers.{beside}
-use Rattle.stream_registry.specs.declared.row.Source.{Source}
+use Rattle.stream_registry.specs.declared.row.LogRow.{LogRow}
 
-one_mapped : (b : Bool) (f : Source → List ℕ) (log : Source) (rest : List Source) (readers : List (List ℕ)) →
+one_mapped : (b : Bool) (f : LogRow → List ℕ) (log : LogRow) (rest : List LogRow) (readers : List (List ℕ)) →
     readers ≡ map f rest → cond b (f log ∷ readers) readers ≡ map f (cond b (log ∷ rest) rest)
 one_mapped true f log rest readers h = ap (λ (others : List (List ℕ)). f log ∷ others) h
 one_mapped false f log rest readers h = h
 
 -- beside a row for each log
-pub beside_mapped : (stays : Source → Bool) (f : Source → List ℕ) (logs : List Source) →
+pub beside_mapped : (stays : LogRow → Bool) (f : LogRow → List ℕ) (logs : List LogRow) →
     beside stays logs (map f logs) ≡ map f (filter stays logs)
 beside_mapped stays f [] = refl
 beside_mapped stays f (log ∷ logs) =
@@ -24,7 +24,7 @@ longer true numbers rest more = refl
 longer false numbers rest more = refl
 
 -- one log on
-pub beside_more : (stays : Source → Bool) (logs : List Source) (readers : List (List ℕ)) (i : ℕ) (log : Source)
+pub beside_more : (stays : LogRow → Bool) (logs : List LogRow) (readers : List (List ℕ)) (i : ℕ) (log : LogRow)
     (d : List ℕ) → length readers ≡ length logs → i < length logs →
     beside stays (take (suc i) logs) readers
     ≡ beside stays (take i logs) readers ++ cond (stays (get_or logs i log)) (get_or readers i d ∷ []) []
@@ -38,7 +38,7 @@ beside_more stays (log ∷ logs) (numbers ∷ readers) (suc i) other d same belo
     (cond (stays (get_or logs i other)) (get_or readers i d ∷ []) [])
 
 -- what stays of the first `at` rows stands in the first `kept` places, and from `at` on the rows are as they were
-pub record IsSettling (stays : Source → Bool) (logs : List Source) (before readers : List (List ℕ)) (kept at : ℕ) : Type 0 where
+pub record IsSettling (stays : LogRow → Bool) (logs : List LogRow) (before readers : List (List ℕ)) (kept at : ℕ) : Type 0 where
   pub front : take kept readers ≡ beside stays (take at logs) before
   pub rest : drop at readers ≡ drop at before
   pub behind : kept ≤ at
@@ -60,9 +60,9 @@ drop_on xs ys i same = tail_of xs i ∙ ap (drop 1) same ∙ sym (tail_of ys i)
     tail_of (z ∷ zs) zero = refl
     tail_of (z ∷ zs) (suc n) = tail_of zs n
 
-module _ (stays : Source → Bool) (logs : List Source) (before : List (List ℕ)) where
+module _ (stays : LogRow → Bool) (logs : List LogRow) (before : List (List ℕ)) where
   -- the row goes
-  pub settling_no : (readers : List (List ℕ)) (kept at : ℕ) (log : Source) → IsSettling stays logs before readers kept at →
+  pub settling_no : (readers : List (List ℕ)) (kept at : ℕ) (log : LogRow) → IsSettling stays logs before readers kept at →
       length before ≡ length logs → at < length logs → log ≡ get_or logs at log → stays log ≡ false →
       IsSettling stays logs before readers kept (at + 1)
   settling_no readers kept at log h same below is goes =
@@ -92,7 +92,7 @@ module _ (stays : Source → Bool) (logs : List Source) (before : List (List ℕ
       (cases_lt kept at)
 
   -- the row stays
-  pub settling_yes : (readers swapped : List (List ℕ)) (kept at : ℕ) (log : Source) →
+  pub settling_yes : (readers swapped : List (List ℕ)) (kept at : ℕ) (log : LogRow) →
       IsSettling stays logs before readers kept at → length before ≡ length logs → at < length logs →
       log ≡ get_or logs at log → stays log ≡ true → SwappedAt readers swapped kept at →
       IsSettling stays logs before swapped (kept + 1) (at + 1)

@@ -9,7 +9,7 @@ use Rattle.std.proofs.lemmas.List.Sums.{sum_by-cons}
 use Rattle.log_readers.specs.Numbering.{number_of}
 use Rattle.log_readers.specs.Readers.{all_readers, readers_at}
 use Rattle.log_readers.specs.Turnover.{is_read_by, pair_with, pairs_with}
-use Rattle.stream_registry.specs.declared.row.Source.{Source}
+use Rattle.stream_registry.specs.declared.row.LogRow.{LogRow}
 use Rattle.stream_registry.specs.declared.row.Subscription.{Subscription}
 use Rattle.stream_registry.specs.declared.wanted.Adding.TheVariants.{Make}
 use Rattle.stream_registry.specs.declared.wanted.ImageWanted.{ImageWanted}
@@ -73,7 +73,7 @@ summed : {a b d e f g : ℕ} (c : ℕ) → a ≡ b + d → b ≡ c → e ≡ c �
 summed c p q r s t = omega (arith, p, q, r, s, t)
 
 module _ (clients : List Client) (policy : Rules) (epoch : ℕ) where
-  totals : (subs : List Subscription) (logs : List Source) →
+  totals : (subs : List Subscription) (logs : List LogRow) →
       sum_by (λ (numbers : List ℕ). length numbers) (map (readers_at clients policy epoch subs) logs)
       ≡ length (flat_map (pairs_at clients policy epoch subs) logs)
   totals subs [] = refl
@@ -93,12 +93,12 @@ module _ (clients : List Client) (policy : Rules) (epoch : ℕ) where
   readers_are_pairs s = totals s.subscriptions s.sources
 
   -- nobody reads
-  pub no_pairs : (logs : List Source) → length (flat_map (pairs_at clients policy epoch []) logs) ≡ 0
+  pub no_pairs : (logs : List LogRow) → length (flat_map (pairs_at clients policy epoch []) logs) ≡ 0
   no_pairs [] = refl
   no_pairs (log ∷ logs) = no_pairs logs
 
   -- a subscription brings its own
-  pub pairs_with_row : (row : Subscription) (subs : List Subscription) (logs : List Source) →
+  pub pairs_with_row : (row : Subscription) (subs : List Subscription) (logs : List LogRow) →
       length (flat_map (pairs_at clients policy epoch (subs ++ row ∷ [])) logs)
       ≡ length (flat_map (pairs_at clients policy epoch subs) logs) + length (pairs_with clients policy epoch logs row)
   pairs_with_row row subs logs =

@@ -8,7 +8,7 @@ use Rattle.log_readers.specs.Finding.{is_among, numbers_at}
 use Rattle.log_readers.specs.Numbering.{Rises, number_of, source_of}
 use Rattle.log_readers.specs.Readers.{all_readers, readers_at}
 use Rattle.stream_registry.specs.declared.pairs.Pair.{Pair}
-use Rattle.stream_registry.specs.declared.row.Source.{Source}
+use Rattle.stream_registry.specs.declared.row.LogRow.{LogRow}
 use Rattle.stream_registry.specs.declared.row.Subscription.{Subscription}
 use Rattle.stream_registry.specs.Pairs.{is_of, is_pair, pair_of, pairs_at, pairs_of}
 use Rattle.stream_registry.specs.Streams.{Streams}
@@ -20,20 +20,20 @@ use Rattle.log_readers.proofs.RisingLemmas.{all_above}
 
 -- ---- a log of another source is passed over
 
-pub numbers_passed : (source : ℕ) (logs : List Source) (readers : List (List ℕ)) (i : ℕ) (log : Source) →
+pub numbers_passed : (source : ℕ) (logs : List LogRow) (readers : List (List ℕ)) (i : ℕ) (log : LogRow) →
     length readers ≡ length logs → i < length logs → log ≡ get_or logs i log → (log.number == source) ≡ false →
     numbers_at source (drop i logs) (drop i readers) ≡ numbers_at source (drop (suc i) logs) (drop (suc i) readers)
 numbers_passed source [] readers i log same below is other = absurd (omega (arith, below))
 numbers_passed source (first ∷ logs) [] i log same below is other = absurd (omega (arith, same))
 numbers_passed source (first ∷ logs) (numbers ∷ readers) zero log same below is other =
     ap (λ (b : Bool). cond b numbers (numbers_at source logs readers))
-    (ap (λ (one : Source). one.number == source) (sym is) ∙ other)
+    (ap (λ (one : LogRow). one.number == source) (sym is) ∙ other)
 numbers_passed source (first ∷ logs) (numbers ∷ readers) (suc i) log same below is other =
     numbers_passed source logs readers i log (omega (arith, same)) (omega (arith, below)) is other
 
 -- ---- no two logs have one source
 
-no_other : (source last : ℕ) (logs : List Source) → Rises source_of source last logs →
+no_other : (source last : ℕ) (logs : List LogRow) → Rises source_of source last logs →
     filter (log_passes (λ n. n == source)) logs ≡ []
 no_other source last logs up =
     filter_alike (log_passes (λ n. n == source)) (λ log. false) logs
@@ -42,7 +42,7 @@ no_other source last logs up =
     ∙ none_pass logs
 
 -- the log is that of the source, or one of the others is
-found_or : (b : Bool) (f : Source → List ℕ) (source last : ℕ) (log : Source) (logs : List Source) →
+found_or : (b : Bool) (f : LogRow → List ℕ) (source last : ℕ) (log : LogRow) (logs : List LogRow) →
     (log.number == source) ≡ b → Rises source_of log.number last logs →
     numbers_at source logs (map f logs) ≡ flat_map f (filter (log_passes (λ n. n == source)) logs) →
     cond b (f log) (numbers_at source logs (map f logs))
@@ -50,11 +50,11 @@ found_or : (b : Bool) (f : Source → List ℕ) (source last : ℕ) (log : Sourc
 found_or true f source last log logs is up rest =
     let same : log.number ≡ source = eqb-true log.number source is in
     sym (append-nil (f log))
-    ∙ ap (λ (others : List Source). f log ++ flat_map f others)
+    ∙ ap (λ (others : List LogRow). f log ++ flat_map f others)
     (sym (ap (λ (n : ℕ). filter (log_passes (λ m. m == n)) logs) (sym same) ∙ no_other log.number last logs up))
 found_or false f source last log logs is up rest = rest
 
-found_alone : (f : Source → List ℕ) (source low last : ℕ) (logs : List Source) → Rises source_of low last logs →
+found_alone : (f : LogRow → List ℕ) (source low last : ℕ) (logs : List LogRow) → Rises source_of low last logs →
     numbers_at source logs (map f logs) ≡ flat_map f (filter (log_passes (λ n. n == source)) logs)
 found_alone f source low last [] up = refl
 found_alone f source low last (log ∷ logs) up =
@@ -65,7 +65,7 @@ found_alone f source low last (log ∷ logs) up =
 abbrev subscription_of : Pair → ℕ
 subscription_of pair = pair.subscription
 
-numbers_of_pairs : (log : Source) (read : List Subscription) →
+numbers_of_pairs : (log : LogRow) (read : List Subscription) →
     map number_of read ≡ map subscription_of (map (pair_of log) read)
 numbers_of_pairs log [] = refl
 numbers_of_pairs log (row ∷ read) = ap (λ (rest : List ℕ). row.number ∷ rest) (numbers_of_pairs log read)

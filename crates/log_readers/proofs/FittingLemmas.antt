@@ -3,7 +3,7 @@ use Rattle.std.proofs.Common.{◌≡◌, ℕ, Bool, true, false, List, [], map, 
 use Rattle.std.specs.Prelude.{◌&&◌, filter}
 use Rattle.std.proofs.lemmas.List.Elements.{filter_agree}
 use Rattle.log_readers.specs.Turnover.{is_read_by, pair_with, pairs_with}
-use Rattle.stream_registry.specs.declared.row.Source.{Source}
+use Rattle.stream_registry.specs.declared.row.LogRow.{LogRow}
 use Rattle.stream_registry.specs.declared.row.Subscription.{Subscription}
 use Rattle.stream_registry.specs.Pairs.{fits, is_allowed}
 use Rattle.client_registry.specs.declared.client.Client.{Client}
@@ -18,7 +18,7 @@ pub and_false : (b : Bool) → (b && false) ≡ false
 and_false true = refl
 and_false false = refl
 
-module _ (clients : List Client) (policy : Rules) (epoch : ℕ) (row : Subscription) (logs : List Source) where
+module _ (clients : List Client) (policy : Rules) (epoch : ℕ) (row : Subscription) (logs : List LogRow) where
   pub reads_fitting : is_allowed clients policy epoch row ≡ true →
       map (pair_with row) (filter (λ log. fits log row) logs) ≡ pairs_with clients policy epoch logs row
   reads_fitting allowed =

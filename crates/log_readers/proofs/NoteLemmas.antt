@@ -5,7 +5,7 @@ use Rattle.std.proofs.lemmas.List.{map-append}
 use Rattle.std.proofs.lemmas.List.Elements.{filter-append, All-nil, All-cons}
 use Rattle.log_readers.specs.Numbering.{number_of}
 use Rattle.log_readers.specs.Readers.{noted, noted_at, readers_at}
-use Rattle.stream_registry.specs.declared.row.Source.{Source}
+use Rattle.stream_registry.specs.declared.row.LogRow.{LogRow}
 use Rattle.stream_registry.specs.declared.row.Subscription.{Subscription}
 use Rattle.stream_registry.specs.Pairs.{fits, is_allowed, is_pair}
 use Rattle.client_registry.specs.declared.client.Client.{Client}
@@ -13,7 +13,7 @@ use Rattle.policy_core.specs.RuleList.{Rules}
 
 -- ---- a loop that notes at one log after another
 
-pub noted_read : (row : Subscription) (logs : List Source) (readers : List (List ℕ)) (i : ℕ) (d : List ℕ) →
+pub noted_read : (row : Subscription) (logs : List LogRow) (readers : List (List ℕ)) (i : ℕ) (d : List ℕ) →
     length readers ≡ length logs → i < length logs → get_or (noted row (take i logs) readers) i d ≡ get_or readers i d
 noted_read row [] readers i d same below = absurd (omega (arith, below))
 noted_read row (log ∷ logs) [] i d same below = absurd (omega (arith, same))
@@ -21,7 +21,7 @@ noted_read row (log ∷ logs) (numbers ∷ readers) zero d same below = refl
 noted_read row (log ∷ logs) (numbers ∷ readers) (suc i) d same below =
     noted_read row logs readers i d (omega (arith, same)) (omega (arith, below))
 
-pub noted_written : (row : Subscription) (logs : List Source) (readers : List (List ℕ)) (i : ℕ) (log : Source)
+pub noted_written : (row : Subscription) (logs : List LogRow) (readers : List (List ℕ)) (i : ℕ) (log : LogRow)
     (d numbers : List ℕ) → length readers ≡ length logs → i < length logs →
     numbers ≡ noted_at row (get_or logs i log) (get_or readers i d) →
     set (noted row (take i logs) readers) i numbers ≡ noted row (take (suc i) logs) readers
@@ -49,7 +49,7 @@ twice false false more numbers = refl
 
 module _ (clients : List Client) (policy : Rules) (epoch : ℕ) (subs : List Subscription) (row : Subscription) where
   -- at one log
-  readers_more : (log : Source) →
+  readers_more : (log : LogRow) →
       readers_at clients policy epoch (subs ++ row ∷ []) log
       ≡ cond (is_allowed clients policy epoch row) (noted_at row log (readers_at clients policy epoch subs log))
       (readers_at clients policy epoch subs log)
@@ -60,7 +60,7 @@ module _ (clients : List Client) (policy : Rules) (epoch : ℕ) (subs : List Sub
       ∙ twice (fits log row) (is_allowed clients policy epoch row) (readers_at clients policy epoch subs log ++ row.number ∷ [])
       (readers_at clients policy epoch subs log)
 
-  when : (allowed : Bool) (logs : List Source) → is_allowed clients policy epoch row ≡ allowed →
+  when : (allowed : Bool) (logs : List LogRow) → is_allowed clients policy epoch row ≡ allowed →
       map (readers_at clients policy epoch (subs ++ row ∷ [])) logs
       ≡ cond allowed (noted row logs (map (readers_at clients policy epoch subs) logs)) (map (readers_at clients policy epoch subs) logs)
   when true [] is = refl
@@ -73,7 +73,7 @@ module _ (clients : List Client) (policy : Rules) (epoch : ℕ) (subs : List Sub
       (ap (λ (rest : List (List ℕ)). readers_at clients policy epoch subs log ∷ rest) (when false logs is))
 
   -- at all logs
-  pub noted_more : (logs : List Source) →
+  pub noted_more : (logs : List LogRow) →
       map (readers_at clients policy epoch (subs ++ row ∷ [])) logs
       ≡ cond (is_allowed clients policy epoch row) (noted row logs (map (readers_at clients policy epoch subs) logs))
       (map (readers_at clients policy epoch subs) logs)
@@ -87,14 +87,14 @@ few_more true row rest limit h = omega (arith, h)
 few_more false row rest limit h = omega (arith, h)
 
 -- no log has more readers than there are subscriptions
-pub few_readers : (clients : List Client) (policy : Rules) (epoch : ℕ) (subs : List Subscription) (log : Source) →
+pub few_readers : (clients : List Client) (policy : Rules) (epoch : ℕ) (subs : List Subscription) (log : LogRow) →
     length (readers_at clients policy epoch subs log) ≤ length subs
 few_readers clients policy epoch [] log = omega arith
 few_readers clients policy epoch (row ∷ subs) log =
     few_more (is_pair clients policy epoch log row) row (filter (is_pair clients policy epoch log) subs) (length subs)
     (few_readers clients policy epoch subs log)
 
-pub all_few : (clients : List Client) (policy : Rules) (epoch : ℕ) (subs : List Subscription) (logs : List Source) (limit : ℕ) →
+pub all_few : (clients : List Client) (policy : Rules) (epoch : ℕ) (subs : List Subscription) (logs : List LogRow) (limit : ℕ) →
     length subs < limit → All (λ (numbers : List ℕ). length numbers < limit) (map (readers_at clients policy epoch subs) logs)
 all_few clients policy epoch subs [] limit few = All-nil (λ (numbers : List ℕ). length numbers < limit)
 all_few clients policy epoch subs (log ∷ logs) limit few =
@@ -105,9 +105,9 @@ all_few clients policy epoch subs (log ∷ logs) limit few =
 -- ---- none yet
 
 -- logs that were emptied
-pub emptied : (logs : List Source) (slots : List (List ℕ)) → length logs ≤ length slots →
+pub emptied : (logs : List LogRow) (slots : List (List ℕ)) → length logs ≤ length slots →
     map {A = List ℕ} {B = List ℕ} (λ numbers. []) (take (length logs) slots)
-    ≡ map {A = Source} {B = List ℕ} (λ log. []) logs
+    ≡ map {A = LogRow} {B = List ℕ} (λ log. []) logs
 emptied [] slots few = refl
 emptied (log ∷ logs) [] few = absurd (omega (arith, few))
 emptied (log ∷ logs) (numbers ∷ slots) few =

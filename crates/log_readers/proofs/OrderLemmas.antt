@@ -4,7 +4,7 @@ use Rattle.std.proofs.lemmas.Bool.{not-true}
 use Rattle.std.proofs.lemmas.List.Elements.{All-filter, All-nil, All-push, All-weaker, filter_passes}
 use Rattle.log_readers.specs.Numbering.{AreInOrder, IsOwned, number_of, registered_as, source_of}
 use Rattle.log_readers.specs.Unread.{is_kept, without_unread}
-use Rattle.stream_registry.specs.declared.row.Source.{Source}
+use Rattle.stream_registry.specs.declared.row.LogRow.{LogRow}
 use Rattle.stream_registry.specs.declared.row.Subscription.{Subscription}
 use Rattle.stream_registry.specs.declared.wanted.Adding.TheVariants.{Join, Make}
 use Rattle.stream_registry.specs.declared.wanted.ImageWanted.{ImageWanted}
@@ -87,7 +87,7 @@ unsubscribed_in_order s clients last client number h = record {
   owned = All-filter (is_another_subscription client number) (IsOwned clients) s.subscriptions h.owned;
 }
 
-source_settled : (b : Bool) (now : ℕ) (log : Source) → source_of (cond b log (left_alone now log)) ≡ source_of log
+source_settled : (b : Bool) (now : ℕ) (log : LogRow) → source_of (cond b log (left_alone now log)) ≡ source_of log
 source_settled true now log = refl
 source_settled false now log = refl
 
@@ -132,7 +132,7 @@ left_in_order s clients last client now h =
     })
 
 -- a part of the logs
-kept_in_order : (s : Streams) (stays : Source → Bool) (clients : List Client) (last : ℕ) → AreInOrder s clients last →
+kept_in_order : (s : Streams) (stays : LogRow → Bool) (clients : List Client) (last : ℕ) → AreInOrder s clients last →
     AreInOrder (record s { sources = filter stays s.sources }) clients last
 kept_in_order s stays clients last h = record {
   sources = rises_kept source_of stays 0 last s.sources h.sources;

@@ -6,7 +6,7 @@ use Rattle.log_readers.specs.Numbering.{number_of}
 use Rattle.log_readers.specs.Readers.{readers_at}
 use Rattle.log_readers.specs.Turnover.{is_read_by, pair_with, pairs_with}
 use Rattle.stream_registry.specs.declared.pairs.Pair.{Pair}
-use Rattle.stream_registry.specs.declared.row.Source.{Source}
+use Rattle.stream_registry.specs.declared.row.LogRow.{LogRow}
 use Rattle.stream_registry.specs.declared.row.Subscription.{Subscription}
 use Rattle.stream_registry.specs.Pairs.{is_pair, pair_of, pairs_at}
 use Rattle.client_registry.specs.declared.client.Client.{Client}
@@ -17,15 +17,15 @@ use Rattle.log_readers.proofs.ListLemmas.{filter_flat, filter_mapped, filter_swa
 abbrev pub passes : (ℕ → Bool) → Subscription → Bool
 passes test row = test row.number
 
-abbrev pub log_passes : (ℕ → Bool) → Source → Bool
+abbrev pub log_passes : (ℕ → Bool) → LogRow → Bool
 log_passes test log = test log.number
 
-row_kept : (test : ℕ → Bool) (log : Source) (read : List Subscription) → test log.number ≡ true →
+row_kept : (test : ℕ → Bool) (log : LogRow) (read : List Subscription) → test log.number ≡ true →
     filter (λ (pair : Pair). test pair.source) (map (pair_of log) read) ≡ map (pair_of log) read
 row_kept test log [] h = refl
 row_kept test log (one ∷ read) h = rw h (ap (λ (pairs : List Pair). pair_of log one ∷ pairs) (row_kept test log read h))
 
-row_lost : (test : ℕ → Bool) (log : Source) (read : List Subscription) → test log.number ≡ false →
+row_lost : (test : ℕ → Bool) (log : LogRow) (read : List Subscription) → test log.number ≡ false →
     filter (λ (pair : Pair). test pair.source) (map (pair_of log) read) ≡ []
 row_lost test log [] h = refl
 row_lost test log (one ∷ read) h = rw h (row_lost test log read h)
@@ -33,7 +33,7 @@ row_lost test log (one ∷ read) h = rw h (row_lost test log read h)
 module _ (clients : List Client) (policy : Rules) (epoch : ℕ) where
   -- ---- subscriptions
 
-  pub pairs_of_part : (test : ℕ → Bool) (subs : List Subscription) (logs : List Source) →
+  pub pairs_of_part : (test : ℕ → Bool) (subs : List Subscription) (logs : List LogRow) →
       flat_map (pairs_at clients policy epoch (filter (passes test) subs)) logs
       ≡ filter (λ (pair : Pair). test pair.subscription) (flat_map (pairs_at clients policy epoch subs) logs)
   pairs_of_part test subs logs =
@@ -43,13 +43,13 @@ module _ (clients : List Client) (policy : Rules) (epoch : ℕ) where
       ∙ sym (filter_mapped (λ (pair : Pair). test pair.subscription) (pair_of log) (filter (is_pair clients policy epoch log) subs)))
       ∙ sym (filter_flat (λ (pair : Pair). test pair.subscription) (pairs_at clients policy epoch subs) logs)
 
-  part_at : (test : ℕ → Bool) (subs : List Subscription) (log : Source) →
+  part_at : (test : ℕ → Bool) (subs : List Subscription) (log : LogRow) →
       readers_at clients policy epoch (filter (passes test) subs) log ≡ filter test (readers_at clients policy epoch subs log)
   part_at test subs log =
       ap (map number_of) (filter_swap (is_pair clients policy epoch log) (passes test) subs)
       ∙ sym (filter_mapped test number_of (filter (is_pair clients policy epoch log) subs))
 
-  pub readers_of_part : (test : ℕ → Bool) (subs : List Subscription) (logs : List Source) →
+  pub readers_of_part : (test : ℕ → Bool) (subs : List Subscription) (logs : List LogRow) →
       map (readers_at clients policy epoch (filter (passes test) subs)) logs
       ≡ map (filter test) (map (readers_at clients policy epoch subs) logs)
   readers_of_part test subs [] = refl
@@ -59,7 +59,7 @@ module _ (clients : List Client) (policy : Rules) (epoch : ℕ) where
 
   -- ---- logs
 
-  one_log : (kept : Bool) (test : ℕ → Bool) (subs : List Subscription) (log : Source) (rest : List Source) →
+  one_log : (kept : Bool) (test : ℕ → Bool) (subs : List Subscription) (log : LogRow) (rest : List LogRow) →
       test log.number ≡ kept →
       flat_map (pairs_at clients policy epoch subs) (cond kept (log ∷ rest) rest)
       ≡ filter (λ (pair : Pair). test pair.source) (pairs_at clients policy epoch subs log)
@@ -71,7 +71,7 @@ module _ (clients : List Client) (policy : Rules) (epoch : ℕ) where
       ap (λ (pairs : List Pair). pairs ++ flat_map (pairs_at clients policy epoch subs) rest)
       (sym (row_lost test log (filter (is_pair clients policy epoch log) subs) h))
 
-  pub pairs_of_logs : (test : ℕ → Bool) (subs : List Subscription) (logs : List Source) →
+  pub pairs_of_logs : (test : ℕ → Bool) (subs : List Subscription) (logs : List LogRow) →
       flat_map (pairs_at clients policy epoch subs) (filter (log_passes test) logs)
       ≡ filter (λ (pair : Pair). test pair.source) (flat_map (pairs_at clients policy epoch subs) logs)
   pairs_of_logs test subs [] = refl
@@ -84,13 +84,13 @@ module _ (clients : List Client) (policy : Rules) (epoch : ℕ) where
 
   -- ---- one subscription alone
 
-  alone_at : (paired : Bool) (row : Subscription) (log : Source) (rest : List Source) →
+  alone_at : (paired : Bool) (row : Subscription) (log : LogRow) (rest : List LogRow) →
       map (pair_of log) (cond paired (row ∷ []) []) ++ map (pair_with row) rest
       ≡ map (pair_with row) (cond paired (log ∷ rest) rest)
   alone_at true row log rest = refl
   alone_at false row log rest = refl
 
-  pub pairs_alone : (row : Subscription) (logs : List Source) →
+  pub pairs_alone : (row : Subscription) (logs : List LogRow) →
       flat_map (pairs_at clients policy epoch (row ∷ [])) logs ≡ pairs_with clients policy epoch logs row
   pairs_alone row [] = refl
   pairs_alone row (log ∷ logs) =

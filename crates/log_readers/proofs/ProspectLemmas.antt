@@ -9,7 +9,7 @@ use Rattle.std.proofs.lemmas.List.Sums.{sum_by-cons}
 use Rattle.log_readers.specs.Prospects.{is_prospect_of, prospects_with}
 use Rattle.log_readers.specs.Turnover.{pair_with}
 use Rattle.log_readers.proofs.CountLemmas.{log_more, one_more}
-use Rattle.stream_registry.specs.declared.row.Source.{Source}
+use Rattle.stream_registry.specs.declared.row.LogRow.{LogRow}
 use Rattle.stream_registry.specs.declared.row.Subscription.{Subscription}
 use Rattle.stream_registry.specs.declared.wanted.Adding.TheVariants.{Join, Make}
 use Rattle.stream_registry.specs.declared.wanted.ImageWanted.{ImageWanted}
@@ -24,12 +24,12 @@ use Rattle.policy_core.specs.RuleList.{Rules}
 
 module _ (clients : List Client) (policy : Rules) (coming : List Rules) (epoch : ℕ) where
   -- nobody reads
-  pub no_prospects : (logs : List Source) → length (flat_map (prospects_at clients policy coming epoch []) logs) ≡ 0
+  pub no_prospects : (logs : List LogRow) → length (flat_map (prospects_at clients policy coming epoch []) logs) ≡ 0
   no_prospects [] = refl
   no_prospects (log ∷ logs) = no_prospects logs
 
   -- a subscription brings its own
-  pub prospects_with_row : (row : Subscription) (subs : List Subscription) (logs : List Source) →
+  pub prospects_with_row : (row : Subscription) (subs : List Subscription) (logs : List LogRow) →
       length (flat_map (prospects_at clients policy coming epoch (subs ++ row ∷ [])) logs)
       ≡ length (flat_map (prospects_at clients policy coming epoch subs) logs) + length (prospects_with clients policy coming epoch logs row)
   prospects_with_row row subs logs =

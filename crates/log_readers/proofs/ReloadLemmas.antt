@@ -9,7 +9,7 @@ use Rattle.log_readers.specs.Readers.{all_readers, readers_at}
 use Rattle.log_readers.specs.Reloading.{alone_if, comes, goes, turned_at, turned_over}
 use Rattle.log_readers.specs.Turnover.{lacking}
 use Rattle.stream_registry.specs.declared.pairs.Pair.{Pair}
-use Rattle.stream_registry.specs.declared.row.Source.{Source}
+use Rattle.stream_registry.specs.declared.row.LogRow.{LogRow}
 use Rattle.stream_registry.specs.declared.row.Subscription.{Subscription}
 use Rattle.stream_registry.specs.Pairs.{fits, is_allowed, is_pair, pair_of, pairs_of}
 use Rattle.stream_registry.specs.Streams.{Streams}
@@ -36,13 +36,13 @@ among_part reads low last rows up k d within =
 
 -- ---- the pairs that turn, at one log
 
-one_turned : (b : Bool) (log : Source) (row : Subscription) (rest : List Subscription) →
+one_turned : (b : Bool) (log : LogRow) (row : Subscription) (rest : List Subscription) →
     alone_if b (pair_of log row) ++ map (pair_of log) rest ≡ map (pair_of log) (cond b (row ∷ rest) rest)
 one_turned true log row rest = refl
 one_turned false log row rest = refl
 
 module _ (turns : Bool → Bool → Bool) (allows : Subscription → Bool) where
-  turned_rows : (log : Source) (numbers : List ℕ) (reads : Subscription → Bool) (rows : List Subscription) →
+  turned_rows : (log : LogRow) (numbers : List ℕ) (reads : Subscription → Bool) (rows : List Subscription) →
       All (λ row. is_among numbers row.number ≡ reads row) rows →
       turned_at turns rows (map allows rows) log numbers
       ≡ map (pair_of log) (filter (λ row. turns (reads row) (allows row && fits log row)) rows)
@@ -56,7 +56,7 @@ module _ (turns : Bool → Bool → Bool) (allows : Subscription → Bool) where
       (filter (λ one. turns (reads one) (allows one && fits log one)) rows))
 
   -- and at all
-  turned_logs : (clients : List Client) (policy : Rules) (epoch low last : ℕ) (subs : List Subscription) (logs : List Source) →
+  turned_logs : (clients : List Client) (policy : Rules) (epoch low last : ℕ) (subs : List Subscription) (logs : List LogRow) →
       Rises number_of low last subs →
       turned_over turns subs (map allows subs) logs (map (readers_at clients policy epoch subs) logs)
       ≡ flat_map (λ log. map (pair_of log)
@@ -73,13 +73,13 @@ module _ (turns : Bool → Bool → Bool) (allows : Subscription → Bool) where
 
 -- ---- the pairs of the rows that pass, among those of all that fit
 
-abbrev fitting_at : List Subscription → Source → List Pair
+abbrev fitting_at : List Subscription → LogRow → List Pair
 fitting_at subs log = map (pair_of log) (filter (fits log) subs)
 
-abbrev passing_at : (Subscription → Bool) → List Subscription → Source → List Pair
+abbrev passing_at : (Subscription → Bool) → List Subscription → LogRow → List Pair
 passing_at test subs log = map (pair_of log) (filter (λ row. fits log row && test row) subs)
 
-passing_part : (test : Subscription → Bool) (by_number : ℕ → Bool) (subs : List Subscription) (logs : List Source) →
+passing_part : (test : Subscription → Bool) (by_number : ℕ → Bool) (subs : List Subscription) (logs : List LogRow) →
     All (λ row. by_number row.number ≡ test row) subs →
     flat_map (passing_at test subs) logs ≡ filter (λ (pair : Pair). by_number pair.subscription) (flat_map (fitting_at subs) logs)
 passing_part test by_number subs logs same =
@@ -92,7 +92,7 @@ passing_part test by_number subs logs same =
     ∙ sym (filter_flat (λ (pair : Pair). by_number pair.subscription) (fitting_at subs) logs)
 
 -- the pairs of those that pass one test lack, of those that pass another, the ones that pass it alone
-passing_lack : (test other : Subscription → Bool) (low last : ℕ) (subs : List Subscription) (logs : List Source) →
+passing_lack : (test other : Subscription → Bool) (low last : ℕ) (subs : List Subscription) (logs : List LogRow) →
     Rises number_of low last subs →
     lacking (flat_map (passing_at test subs) logs) (flat_map (passing_at other subs) logs)
     ≡ flat_map (passing_at (λ row. test row && not (other row)) subs) logs

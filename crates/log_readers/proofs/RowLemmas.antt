@@ -7,7 +7,7 @@ use Rattle.log_readers.specs.Numbering.{Rises, number_of}
 use Rattle.log_readers.specs.Readers.{all_readers, forgotten, forgotten_at, is_unlike, readers_at}
 use Rattle.log_readers.specs.Turnover.{is_of_number, pair_at, told_at, told_to}
 use Rattle.stream_registry.specs.declared.pairs.Pair.{Pair}
-use Rattle.stream_registry.specs.declared.row.Source.{Source}
+use Rattle.stream_registry.specs.declared.row.LogRow.{LogRow}
 use Rattle.stream_registry.specs.declared.row.Subscription.{Subscription}
 use Rattle.stream_registry.specs.Leaving.{has_subscription, unsubscribed}
 use Rattle.stream_registry.specs.Pairs.{fits, is_allowed, is_pair, pair_of, pairs_at, pairs_of}
@@ -21,7 +21,7 @@ use Rattle.log_readers.proofs.TellLemmas.{row_told}
 
 -- ---- a loop that forgets at one log after another
 
-pub forgotten_read : (row : Subscription) (logs : List Source) (readers : List (List ℕ)) (i : ℕ) (d : List ℕ) →
+pub forgotten_read : (row : Subscription) (logs : List LogRow) (readers : List (List ℕ)) (i : ℕ) (d : List ℕ) →
     length readers ≡ length logs → i < length logs → get_or (forgotten row (take i logs) readers) i d ≡ get_or readers i d
 forgotten_read row [] readers i d same below = absurd (omega (arith, below))
 forgotten_read row (log ∷ logs) [] i d same below = absurd (omega (arith, same))
@@ -29,7 +29,7 @@ forgotten_read row (log ∷ logs) (numbers ∷ readers) zero d same below = refl
 forgotten_read row (log ∷ logs) (numbers ∷ readers) (suc i) d same below =
     forgotten_read row logs readers i d (omega (arith, same)) (omega (arith, below))
 
-pub forgotten_written : (row : Subscription) (logs : List Source) (readers : List (List ℕ)) (i : ℕ) (log : Source)
+pub forgotten_written : (row : Subscription) (logs : List LogRow) (readers : List (List ℕ)) (i : ℕ) (log : LogRow)
     (d numbers : List ℕ) → length readers ≡ length logs → i < length logs →
     numbers ≡ forgotten_at row (get_or logs i log) (get_or readers i d) →
     set (forgotten row (take i logs) readers) i numbers ≡ forgotten row (take (suc i) logs) readers
@@ -44,7 +44,7 @@ forgotten_written row (log ∷ logs) (first ∷ readers) (suc i) other d numbers
 -- ---- a log that the subscription does not fit
 
 -- no subscription of its number fits
-unfit : (log : Source) (row : Subscription) (low last : ℕ) (subs : List Subscription) → Rises number_of low last subs →
+unfit : (log : LogRow) (row : Subscription) (low last : ℕ) (subs : List Subscription) → Rises number_of low last subs →
     Contains subs row → fits log row ≡ false → finds number_of (fits log) subs row.number ≡ false
 unfit log row low last subs up there misses =
     All-contains (λ (one : Subscription). finds number_of (fits log) subs (number_of one) ≡ fits log one) subs row
@@ -63,7 +63,7 @@ none_later true rest none = absurd (cc)
 none_later false rest none = none
 
 module _ (clients : List Client) (policy : Rules) (epoch : ℕ) where
-  none_own : (log : Source) (number : ℕ) (subs : List Subscription) → finds number_of (fits log) subs number ≡ false →
+  none_own : (log : LogRow) (number : ℕ) (subs : List Subscription) → finds number_of (fits log) subs number ≡ false →
       filter (λ row. is_pair clients policy epoch log row && (row.number == number)) subs ≡ []
   none_own log number [] none = refl
   none_own log number (one ∷ subs) none =
@@ -72,7 +72,7 @@ module _ (clients : List Client) (policy : Rules) (epoch : ℕ) where
       rw (none_step (fits log one) (is_allowed clients policy epoch one) own rest none)
       (none_own log number subs (none_later (fits log one && own) rest none))
 
-  pub no_pairs : (log : Source) (row : Subscription) (low last : ℕ) (subs : List Subscription) → Rises number_of low last subs →
+  pub no_pairs : (log : LogRow) (row : Subscription) (low last : ℕ) (subs : List Subscription) → Rises number_of low last subs →
       Contains subs row → fits log row ≡ false → filter (is_of_number row.number) (pairs_at clients policy epoch subs log) ≡ []
   no_pairs log row low last subs up there misses =
       filter_mapped (is_of_number row.number) (pair_of log) (filter (is_pair clients policy epoch log) subs)
@@ -88,7 +88,7 @@ module _ (clients : List Client) (policy : Rules) (epoch : ℕ) where
   others_step true false own rest none = refl
   others_step false allowed own rest none = refl
 
-  all_others : (log : Source) (number : ℕ) (subs : List Subscription) → finds number_of (fits log) subs number ≡ false →
+  all_others : (log : LogRow) (number : ℕ) (subs : List Subscription) → finds number_of (fits log) subs number ≡ false →
       filter (λ row. is_pair clients policy epoch log row && is_unlike number row.number) subs
       ≡ filter (is_pair clients policy epoch log) subs
   all_others log number [] none = refl
@@ -99,7 +99,7 @@ module _ (clients : List Client) (policy : Rules) (epoch : ℕ) where
       (ap (λ (rows : List Subscription). cond (is_pair clients policy epoch log one) (one ∷ rows) rows)
       (all_others log number subs (none_later (fits log one && own) rest none)))
 
-  others_stay : (log : Source) (row : Subscription) (low last : ℕ) (subs : List Subscription) → Rises number_of low last subs →
+  others_stay : (log : LogRow) (row : Subscription) (low last : ℕ) (subs : List Subscription) → Rises number_of low last subs →
       Contains subs row → fits log row ≡ false →
       filter (is_unlike row.number) (readers_at clients policy epoch subs log) ≡ readers_at clients policy epoch subs log
   others_stay log row low last subs up there misses =
@@ -110,14 +110,14 @@ module _ (clients : List Client) (policy : Rules) (epoch : ℕ) where
 
   -- ---- so all are as if each had been looked into
 
-  forgotten_one : (fitting : Bool) (log : Source) (row : Subscription) (numbers : List ℕ) →
+  forgotten_one : (fitting : Bool) (log : LogRow) (row : Subscription) (numbers : List ℕ) →
       (fitting ≡ false → filter (is_unlike row.number) numbers ≡ numbers) →
       cond fitting (filter (is_unlike row.number) numbers) numbers ≡ filter (is_unlike row.number) numbers
   forgotten_one true log row numbers same = refl
   forgotten_one false log row numbers same = sym (same refl)
 
   forgotten_mapped : (row : Subscription) (low last : ℕ) (subs : List Subscription) → Rises number_of low last subs →
-      Contains subs row → (logs : List Source) →
+      Contains subs row → (logs : List LogRow) →
       forgotten row logs (map (readers_at clients policy epoch subs) logs)
       ≡ map (filter (is_unlike row.number)) (map (readers_at clients policy epoch subs) logs)
   forgotten_mapped row low last subs up there [] = refl
@@ -137,14 +137,14 @@ module _ (clients : List Client) (policy : Rules) (epoch : ℕ) where
 
   -- its pairs are those with the logs that it fits
 
-  told_one : (fitting : Bool) (log : Source) (number : ℕ) (numbers : List ℕ) (pairs : List Pair) →
+  told_one : (fitting : Bool) (log : LogRow) (number : ℕ) (numbers : List ℕ) (pairs : List Pair) →
       map (pair_at log.number) numbers ≡ pairs → (fitting ≡ false → filter (is_of_number number) pairs ≡ []) →
       filter (is_of_number number) (cond fitting (map (pair_at log.number) numbers) []) ≡ filter (is_of_number number) pairs
   told_one true log number numbers pairs is none = ap (filter (is_of_number number)) is
   told_one false log number numbers pairs is none = sym (none refl)
 
   told_mapped : (row : Subscription) (low last : ℕ) (subs : List Subscription) → Rises number_of low last subs →
-      Contains subs row → (logs : List Source) →
+      Contains subs row → (logs : List LogRow) →
       filter (is_of_number row.number) (told_to row logs (map (readers_at clients policy epoch subs) logs))
       ≡ filter (is_of_number row.number) (flat_map (pairs_at clients policy epoch subs) logs)
   told_mapped row low last subs up there [] = refl

@@ -8,7 +8,7 @@ use Rattle.log_readers.specs.Readers.{all_readers, readers_at}
 use Rattle.log_readers.specs.Turnover.{IsReadAlike}
 use Rattle.stream_registry.specs.declared.row.Origin.{Origin}
 use Rattle.stream_registry.specs.declared.row.Origin.TheVariants.{Published, Remote}
-use Rattle.stream_registry.specs.declared.row.Source.{Source}
+use Rattle.stream_registry.specs.declared.row.LogRow.{LogRow}
 use Rattle.stream_registry.specs.declared.row.Registration.{Registration}
 use Rattle.stream_registry.specs.declared.row.Subscription.{Subscription}
 use Rattle.stream_registry.specs.declared.wanted.Adding.TheVariants.{Join}
@@ -37,7 +37,7 @@ module _ (policy : Rules) (epoch : ℕ) where
   unfolding is_allowed
   allowed_alike clients others row same = ap (is_allowed_to policy epoch row) same
 
-  read_alike : (clients others : List Client) (subs : List Subscription) (log : Source) →
+  read_alike : (clients others : List Client) (subs : List Subscription) (log : LogRow) →
       All (IsFoundAlike clients others) subs →
       filter (is_pair others policy epoch log) subs ≡ filter (is_pair clients policy epoch log) subs
   read_alike clients others subs log found =
@@ -72,7 +72,7 @@ module _ (policy : Rules) (epoch : ℕ) where
 
   -- ---- publications that begin to linger
 
-  pairs_left : (clients : List Client) (subs : List Subscription) (now : ℕ) (log : Source) (origin : Origin) →
+  pairs_left : (clients : List Client) (subs : List Subscription) (now : ℕ) (log : LogRow) (origin : Origin) →
       pairs_at clients policy epoch subs (record log { origin = left_by now origin })
       ≡ pairs_at clients policy epoch subs (record log { origin = origin })
   unfolding fits reaches
@@ -80,7 +80,7 @@ module _ (policy : Rules) (epoch : ℕ) where
   pairs_left clients subs now log (Remote address initial_term join) = refl
 
   pairs_settled : (clients : List Client) (subs : List Subscription) (registrations : List Registration) (now : ℕ)
-      (log : Source) →
+      (log : LogRow) →
       pairs_at clients policy epoch subs (settled_one registrations now log) ≡ pairs_at clients policy epoch subs log
   unfolding fits
   pairs_settled clients subs registrations now log =
@@ -90,7 +90,7 @@ module _ (policy : Rules) (epoch : ℕ) where
         | false ↦ pairs_left clients subs now log log.origin
       ]
 
-  readers_left : (clients : List Client) (subs : List Subscription) (now : ℕ) (log : Source) (origin : Origin) →
+  readers_left : (clients : List Client) (subs : List Subscription) (now : ℕ) (log : LogRow) (origin : Origin) →
       readers_at clients policy epoch subs (record log { origin = left_by now origin })
       ≡ readers_at clients policy epoch subs (record log { origin = origin })
   unfolding fits reaches
@@ -98,7 +98,7 @@ module _ (policy : Rules) (epoch : ℕ) where
   readers_left clients subs now log (Remote address initial_term join) = refl
 
   readers_settled : (clients : List Client) (subs : List Subscription) (registrations : List Registration) (now : ℕ)
-      (log : Source) →
+      (log : LogRow) →
       readers_at clients policy epoch subs (settled_one registrations now log) ≡ readers_at clients policy epoch subs log
   unfolding fits
   readers_settled clients subs registrations now log =

@@ -8,7 +8,7 @@ use Rattle.log_readers.specs.Readers.{is_of_others, is_unlike}
 use Rattle.log_readers.specs.Turnover.{IsReadAlike, IsTurnover, is_of_client, is_of_closing, is_of_number, lacking, pairs_with}
 use Rattle.stream_registry.specs.declared.lingering.LogPlace.{LogPlace}
 use Rattle.stream_registry.specs.declared.pairs.Pair.{Pair}
-use Rattle.stream_registry.specs.declared.row.Source.{Source}
+use Rattle.stream_registry.specs.declared.row.LogRow.{LogRow}
 use Rattle.stream_registry.specs.declared.row.Subscription.{Subscription}
 use Rattle.stream_registry.specs.declared.wanted.Adding.TheVariants.{Make}
 use Rattle.stream_registry.specs.declared.wanted.ImageWanted.{ImageWanted}
@@ -163,9 +163,9 @@ others_by_number s client low last up =
 abbrev pub stays_open : List LogPlace → ℕ → Bool
 stays_open closes source = not (list_any (λ closed. closed.source == source) closes)
 
-any_place : (source : ℕ) (logs : List Source) →
+any_place : (source : ℕ) (logs : List LogRow) →
     list_any (λ (place : LogPlace). place.source == source) (map place_of logs)
-    ≡ list_any (λ (log : Source). log.number == source) logs
+    ≡ list_any (λ (log : LogRow). log.number == source) logs
 any_place source [] = refl
 any_place source (log ∷ logs) = ap (λ (rest : Bool). (log.number == source) || rest) (any_place source logs)
 
@@ -176,9 +176,9 @@ closed_by_source s now silent low last up =
     let found = finds_itself source_of (is_closing now silent) low last s.sources up in
     filter_alike (stays_live now silent) (log_passes (stays_open (map place_of (filter (is_closing now silent) s.sources)))) s.sources
     (λ k d within.
-    let log : Source = get_or s.sources k d in
+    let log : LogRow = get_or s.sources k d in
     ap not (sym (any_place log.number (filter (is_closing now silent) s.sources)
-    ∙ any_filtered (λ (one : Source). one.number == log.number) (is_closing now silent) s.sources
+    ∙ any_filtered (λ (one : LogRow). one.number == log.number) (is_closing now silent) s.sources
     ∙ found k d within)))
 
 module _ (clients : List Client) (policy : Rules) (epoch : ℕ) where
@@ -207,12 +207,12 @@ module _ (clients : List Client) (policy : Rules) (epoch : ℕ) where
       ∙ pairs_alone clients policy epoch row s.sources)
 
   -- the pairs of a log whose source is above all others
-  log_turnover : (s : Streams) (log : Source) (low last : ℕ) → Rises source_of low last s.sources → last < log.number →
+  log_turnover : (s : Streams) (log : LogRow) (low last : ℕ) → Rises source_of low last s.sources → last < log.number →
       IsTurnover (pairs_of s clients policy epoch) (pairs_of (record s { sources = s.sources ++ log ∷ [] }) clients policy epoch) []
       (pairs_at clients policy epoch s.subscriptions log)
   unfolding pairs_of
   log_turnover s log low last up above =
-      let logs : List Source = s.sources ++ log ∷ [] in
+      let logs : List LogRow = s.sources ++ log ∷ [] in
       let before : List Pair = flat_map (pairs_at clients policy epoch s.subscriptions) s.sources in
       let after : List Pair = flat_map (pairs_at clients policy epoch s.subscriptions) logs in
       turned before after (filter (λ (pair : Pair). not (is_unlike log.number pair.source)) after) []

@@ -7,7 +7,7 @@ use Rattle.log_readers.specs.Numbering.{Rises, number_of, source_of}
 use Rattle.log_readers.specs.Readers.{all_readers, readers_at}
 use Rattle.log_readers.specs.Unread.{has_none, has_pair, is_kept, is_of_source, is_unread, unread_beside, unread_of, without_unread}
 use Rattle.stream_registry.specs.declared.pairs.Pair.{Pair}
-use Rattle.stream_registry.specs.declared.row.Source.{Source}
+use Rattle.stream_registry.specs.declared.row.LogRow.{LogRow}
 use Rattle.stream_registry.specs.declared.row.Subscription.{Subscription}
 use Rattle.stream_registry.specs.Images.{stays_beside, without_images}
 use Rattle.stream_registry.specs.Lingering.{is_number}
@@ -22,7 +22,7 @@ use Rattle.log_readers.proofs.RisingLemmas.{finds_itself}
 -- ---- one log after another
 
 -- the log at this place, where nobody reads it, and then those behind it
-unread_step : (logs : List Source) (readers : List (List ℕ)) (i : ℕ) (log : Source) (numbers d : List ℕ) →
+unread_step : (logs : List LogRow) (readers : List (List ℕ)) (i : ℕ) (log : LogRow) (numbers d : List ℕ) →
     length readers ≡ length logs → i < length logs → log ≡ get_or logs i log → numbers ≡ get_or readers i d →
     unread_beside (drop i logs) (drop i readers)
     ≡ cond (is_remote log && has_none numbers) (log.number ∷ unread_beside (drop (suc i) logs) (drop (suc i) readers))
@@ -40,7 +40,7 @@ swapped false true = refl
 swapped false false = refl
 
 -- it is read, and those behind it decide
-pub read_on : (logs : List Source) (readers : List (List ℕ)) (i : ℕ) (log : Source) (numbers d : List ℕ) →
+pub read_on : (logs : List LogRow) (readers : List (List ℕ)) (i : ℕ) (log : LogRow) (numbers d : List ℕ) →
     length readers ≡ length logs → i < length logs → log ≡ get_or logs i log → numbers ≡ get_or readers i d →
     (has_none numbers && is_remote log) ≡ false →
     has_none (unread_beside (drop (i + 1) logs) (drop (i + 1) readers)) ≡ has_none (unread_beside (drop i logs) (drop i readers))
@@ -55,14 +55,14 @@ one_counted true x rest = omega arith
 one_counted false x rest = omega arith
 
 -- so many images are left
-images_left : (logs : List Source) (i : ℕ) (log : Source) → i < length logs → log ≡ get_or logs i log →
+images_left : (logs : List LogRow) (i : ℕ) (log : LogRow) → i < length logs → log ≡ get_or logs i log →
     length (filter is_remote (drop i logs)) ≡ cond (is_remote log) 1 0 + length (filter is_remote (drop (suc i) logs))
 images_left [] i log below is = absurd (omega (arith, below))
 images_left (first ∷ logs) zero log below is = rw is (one_counted (is_remote first) first (filter is_remote logs))
 images_left (first ∷ logs) (suc i) log below is = images_left logs i log (omega (arith, below)) is
 
 -- these are the numbers so far, and with the images that are left there are not too many
-pub record IsTelling (logs : List Source) (readers : List (List ℕ)) (numbers : List ℕ) (count at : ℕ) : Type 0 where
+pub record IsTelling (logs : List LogRow) (readers : List (List ℕ)) (numbers : List ℕ) (count at : ℕ) : Type 0 where
   pub so_far : numbers ++ unread_beside (drop at logs) (drop at readers) ≡ unread_beside logs readers
   pub few : count + length (filter is_remote (drop at logs)) ≤ 512
 
@@ -75,7 +75,7 @@ pub goes_not : (remote none : Bool) → none ≡ false → (remote && none) ≡ 
 goes_not true none is = is
 goes_not false none is = refl
 
-module _ (logs : List Source) (readers : List (List ℕ)) (numbers : List ℕ) (count at : ℕ) (log : Source) (row d : List ℕ) where
+module _ (logs : List LogRow) (readers : List (List ℕ)) (numbers : List ℕ) (count at : ℕ) (log : LogRow) (row d : List ℕ) where
   pub telling_no : IsTelling logs readers numbers count at → length readers ≡ length logs → at < length logs →
       log ≡ get_or logs at log → row ≡ get_or readers at d → (is_remote log && has_none row) ≡ false →
       IsTelling logs readers numbers count (at + 1)
@@ -115,12 +115,12 @@ module _ (logs : List Source) (readers : List (List ℕ)) (numbers : List ℕ) (
 
 -- ---- beside a row for each log
 
-one_beside : (b : Bool) (log : Source) (logs : List Source) (numbers : List ℕ) → numbers ≡ map source_of logs →
+one_beside : (b : Bool) (log : LogRow) (logs : List LogRow) (numbers : List ℕ) → numbers ≡ map source_of logs →
     cond b (log.number ∷ numbers) numbers ≡ map source_of (cond b (log ∷ logs) logs)
 one_beside true log logs numbers h = ap (λ (rest : List ℕ). log.number ∷ rest) h
 one_beside false log logs numbers h = h
 
-unread_mapped : (f : Source → List ℕ) (logs : List Source) →
+unread_mapped : (f : LogRow → List ℕ) (logs : List LogRow) →
     unread_beside logs (map f logs) ≡ map source_of (filter (λ log. is_remote log && has_none (f log)) logs)
 unread_mapped f [] = refl
 unread_mapped f (log ∷ logs) =
@@ -139,24 +139,24 @@ pub any_alike : {X : Type 0} (p q : X → Bool) (xs : List X) → ((x : X) → p
 any_alike p q [] same = refl
 any_alike p q (x ∷ xs) same = rw (same x) (ap (λ (b : Bool). q x || b) (any_alike p q xs same))
 
-any_number : (number : ℕ) (logs : List Source) →
-    list_any (is_number number) (map source_of logs) ≡ list_any (λ (log : Source). log.number == number) logs
+any_number : (number : ℕ) (logs : List LogRow) →
+    list_any (is_number number) (map source_of logs) ≡ list_any (λ (log : LogRow). log.number == number) logs
 any_number number [] = refl
 any_number number (log ∷ logs) = ap (λ (rest : Bool). (log.number == number) || rest) (any_number number logs)
 
 -- the pairs of a log are of its source, and there are some where somebody reads it
-any_at : (source : ℕ) (log : Source) (read : List Subscription) →
+any_at : (source : ℕ) (log : LogRow) (read : List Subscription) →
     list_any (is_of_source source) (map (pair_of log) read) ≡ (not (has_none (map number_of read)) && (log.number == source))
 any_at source log [] = refl
 any_at source log (row ∷ read) = either (log.number == source) source log read refl
   where
-    nowhere : (source : ℕ) (log : Source) (read : List Subscription) → (log.number == source) ≡ false →
+    nowhere : (source : ℕ) (log : LogRow) (read : List Subscription) → (log.number == source) ≡ false →
         list_any (is_of_source source) (map (pair_of log) read) ≡ false
     nowhere source log [] other = refl
     nowhere source log (row ∷ read) other =
         ap (λ (b : Bool). b || list_any (is_of_source source) (map (pair_of log) read)) other ∙ nowhere source log read other
 
-    either : (b : Bool) (source : ℕ) (log : Source) (read : List Subscription) → (log.number == source) ≡ b →
+    either : (b : Bool) (source : ℕ) (log : LogRow) (read : List Subscription) → (log.number == source) ≡ b →
         ((log.number == source) || list_any (is_of_source source) (map (pair_of log) read)) ≡ (log.number == source)
     either true source log read is = rw is refl
     either false source log read is = rw is (nowhere source log read is)
@@ -171,7 +171,7 @@ twice false b = refl
 
 module _ (clients : List Client) (policy : Rules) (epoch : ℕ) where
   -- nobody reads the image
-  abbrev is_alone : List Subscription → Source → Bool
+  abbrev is_alone : List Subscription → LogRow → Bool
   is_alone subs log = is_remote log && has_none (readers_at clients policy epoch subs log)
 
   has_own : (s : Streams) (low last : ℕ) → Rises source_of low last s.sources →
@@ -181,7 +181,7 @@ module _ (clients : List Client) (policy : Rules) (epoch : ℕ) where
   has_own s low last up =
       let found = finds_itself source_of (λ log. not (has_none (readers_at clients policy epoch s.subscriptions log))) low last s.sources up in
       λ k d within.
-      let log : Source = get_or s.sources k d in
+      let log : LogRow = get_or s.sources k d in
       any_flat (is_of_source log.number) (pairs_at clients policy epoch s.subscriptions) s.sources
       ∙ any_alike (λ one. list_any (is_of_source log.number) (pairs_at clients policy epoch s.subscriptions one))
       (λ one. not (has_none (readers_at clients policy epoch s.subscriptions one)) && (source_of one == log.number)) s.sources
@@ -193,7 +193,7 @@ module _ (clients : List Client) (policy : Rules) (epoch : ℕ) where
   unread_alone s low last up =
       let own = has_own s low last up in
       λ k d within.
-      let log : Source = get_or s.sources k d in
+      let log : LogRow = get_or s.sources k d in
       ap (λ (b : Bool). is_remote log && b)
       (ap not (own k d within) ∙ not_not (has_none (readers_at clients policy epoch s.subscriptions log)))
 
@@ -213,17 +213,17 @@ module _ (clients : List Client) (policy : Rules) (epoch : ℕ) where
   unread_gone s low last up =
       let pairs : List Pair = pairs_of s clients policy epoch in
       let found = finds_itself source_of (is_unread pairs) low last s.sources up in
-      ap (λ (logs : List Source). record s { sources = logs })
+      ap (λ (logs : List LogRow). record s { sources = logs })
       (filter_alike (stays_beside (unread_of s pairs)) (is_kept pairs) s.sources
       (λ k d within.
-      let log : Source = get_or s.sources k d in
+      let log : LogRow = get_or s.sources k d in
       ap not (ap (λ (b : Bool). is_remote log && b)
       (any_number log.number (filter (is_unread pairs) s.sources)
-      ∙ any_filtered (λ (one : Source). one.number == log.number) (is_unread pairs) s.sources
+      ∙ any_filtered (λ (one : LogRow). one.number == log.number) (is_unread pairs) s.sources
       ∙ found k d within)
       ∙ twice (is_remote log) (not (has_pair pairs log)))))
 
-  none_at : (log : Source) (read : List Subscription) → not (is_remote log && has_none (map number_of read)) ≡ false →
+  none_at : (log : LogRow) (read : List Subscription) → not (is_remote log && has_none (map number_of read)) ≡ false →
       map (pair_of log) read ≡ []
   none_at log [] goes = refl
   none_at log (row ∷ read) goes = never (is_remote log) goes
@@ -232,14 +232,14 @@ module _ (clients : List Client) (policy : Rules) (epoch : ℕ) where
       never true h = absurd (cc)
       never false h = absurd (cc)
 
-  one_kept : (b : Bool) (stays : Source → Bool) (f : Source → List Pair) (log : Source) (rest logs : List Source) → stays log ≡ b →
+  one_kept : (b : Bool) (stays : LogRow → Bool) (f : LogRow → List Pair) (log : LogRow) (rest logs : List LogRow) → stays log ≡ b →
       (stays log ≡ false → f log ≡ []) → flat_map f rest ≡ flat_map f logs →
       flat_map f (cond b (log ∷ rest) rest) ≡ f log ++ flat_map f logs
   one_kept true stays f log rest logs is none same = ap (λ (pairs : List Pair). f log ++ pairs) same
   one_kept false stays f log rest logs is none same = rw (none is) same
 
   -- logs of which no pair is bring none
-  kept_pairs : (stays : Source → Bool) (f : Source → List Pair) (logs : List Source) → ((log : Source) → stays log ≡ false → f log ≡ []) →
+  kept_pairs : (stays : LogRow → Bool) (f : LogRow → List Pair) (logs : List LogRow) → ((log : LogRow) → stays log ≡ false → f log ≡ []) →
       flat_map f (filter stays logs) ≡ flat_map f logs
   kept_pairs stays f [] none = refl
   kept_pairs stays f (log ∷ logs) none =

@@ -2,7 +2,7 @@
 use Rattle.std.specs.Prelude.{◌≡◌, ℕ, ◌<◌, ◌≤◌, true, List, [], ◌∷◌, All, is_some}
 use Rattle.client_registry.specs.declared.client.Client.{Client}
 use Rattle.client_registry.specs.Clients.{principal_at}
-use Rattle.stream_registry.specs.declared.row.Source.{Source}
+use Rattle.stream_registry.specs.declared.row.LogRow.{LogRow}
 use Rattle.stream_registry.specs.declared.row.Registration.{Registration}
 use Rattle.stream_registry.specs.declared.row.Subscription.{Subscription}
 use Rattle.stream_registry.specs.Streams.{Streams}
@@ -12,7 +12,7 @@ abbrev pub Rises : {A : Type 0} → (A → ℕ) → ℕ → ℕ → List A → T
 Rises number_of low last [] = low ≤ last
 Rises number_of low last (row ∷ rows) = (low < number_of row) × Rises number_of (number_of row) last rows
 
-abbrev pub source_of : Source → ℕ
+abbrev pub source_of : LogRow → ℕ
 source_of log = log.number
 
 abbrev pub number_of : Subscription → ℕ

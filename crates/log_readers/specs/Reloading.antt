@@ -2,7 +2,7 @@
 use Rattle.std.specs.Prelude.{ℕ, Bool, true, false, not, ◌&&◌, List, [], ◌∷◌, ◌++◌}
 use Rattle.log_readers.specs.Finding.{is_among}
 use Rattle.stream_registry.specs.declared.pairs.Pair.{Pair}
-use Rattle.stream_registry.specs.declared.row.Source.{Source}
+use Rattle.stream_registry.specs.declared.row.LogRow.{LogRow}
 use Rattle.stream_registry.specs.declared.row.Subscription.{Subscription}
 use Rattle.stream_registry.specs.Pairs.{fits, pair_of}
 
@@ -18,7 +18,7 @@ alone_if true pair = pair ∷ []
 alone_if false pair = []
 
 -- the pairs of a log that turn so, where it had these readers, by subscription; each is allowed or not
-abbrev pub turned_at : (Bool → Bool → Bool) → List Subscription → List Bool → Source → List ℕ → List Pair
+abbrev pub turned_at : (Bool → Bool → Bool) → List Subscription → List Bool → LogRow → List ℕ → List Pair
 turned_at turns [] allowed log numbers = []
 turned_at turns (subscription ∷ subscriptions) [] log numbers = []
 turned_at turns (subscription ∷ subscriptions) (allows ∷ allowed) log numbers =
@@ -27,7 +27,7 @@ turned_at turns (subscription ∷ subscriptions) (allows ∷ allowed) log number
     ++ turned_at turns subscriptions allowed log numbers
 
 -- those of these logs, which had these readers, by source
-abbrev pub turned_over : (Bool → Bool → Bool) → List Subscription → List Bool → List Source → List (List ℕ) → List Pair
+abbrev pub turned_over : (Bool → Bool → Bool) → List Subscription → List Bool → List LogRow → List (List ℕ) → List Pair
 turned_over turns subscriptions allowed [] readers = []
 turned_over turns subscriptions allowed (log ∷ logs) [] = []
 turned_over turns subscriptions allowed (log ∷ logs) (numbers ∷ readers) =

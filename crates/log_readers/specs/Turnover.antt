@@ -4,7 +4,7 @@ use Rattle.std.specs.List.{list_any}
 use Rattle.log_readers.specs.Readers.{all_readers}
 use Rattle.stream_registry.specs.declared.lingering.LogPlace.{LogPlace}
 use Rattle.stream_registry.specs.declared.pairs.Pair.{Pair}
-use Rattle.stream_registry.specs.declared.row.Source.{Source}
+use Rattle.stream_registry.specs.declared.row.LogRow.{LogRow}
 use Rattle.stream_registry.specs.declared.row.Subscription.{Subscription}
 use Rattle.stream_registry.specs.Leaving.{has_subscription, left}
 use Rattle.stream_registry.specs.Pairs.{fits, is_pair, pair_of, pairs_of}
@@ -24,14 +24,14 @@ abbrev pub lacking : List Pair → List Pair → List Pair
 lacking pairs others = filter (is_lacked_by others) pairs
 
 -- the subscription reads the log
-abbrev pub is_read_by : List Client → Rules → ℕ → Subscription → Source → Bool
+abbrev pub is_read_by : List Client → Rules → ℕ → Subscription → LogRow → Bool
 is_read_by clients policy epoch subscription log = is_pair clients policy epoch log subscription
 
-abbrev pub pair_with : Subscription → Source → Pair
+abbrev pub pair_with : Subscription → LogRow → Pair
 pair_with subscription log = pair_of log subscription
 
 -- the pairs of this subscription, by source
-abbrev pub pairs_with : List Client → Rules → ℕ → List Source → Subscription → List Pair
+abbrev pub pairs_with : List Client → Rules → ℕ → List LogRow → Subscription → List Pair
 pairs_with clients policy epoch logs subscription =
     map (pair_with subscription) (filter (is_read_by clients policy epoch subscription) logs)
 
@@ -39,17 +39,17 @@ abbrev pub pair_at : ℕ → ℕ → Pair
 pair_at source number = record { source = source; subscription = number }
 
 -- the pairs of these rows of numbers, a row for each log
-abbrev pub told : List Source → List (List ℕ) → List Pair
+abbrev pub told : List LogRow → List (List ℕ) → List Pair
 told [] readers = []
 told (log ∷ logs) [] = []
 told (log ∷ logs) (numbers ∷ readers) = map (pair_at log.number) numbers ++ told logs readers
 
 -- the pairs of a log, where the subscription fits
-abbrev pub told_at : Subscription → Source → List ℕ → List Pair
+abbrev pub told_at : Subscription → LogRow → List ℕ → List Pair
 told_at subscription log numbers = if fits log subscription then map (pair_at log.number) numbers else []
 
 -- those of each of these logs, a row of numbers for each
-abbrev pub told_to : Subscription → List Source → List (List ℕ) → List Pair
+abbrev pub told_to : Subscription → List LogRow → List (List ℕ) → List Pair
 told_to subscription [] readers = []
 told_to subscription (log ∷ logs) [] = []
 told_to subscription (log ∷ logs) (numbers ∷ readers) =

@@ -5,7 +5,7 @@ use Rattle.log_readers.specs.Numbering.{source_of}
 use Rattle.log_readers.specs.Turnover.{is_lacked_by, lacking, pair_at}
 use Rattle.stream_registry.specs.declared.lingering.LogPlace.{LogPlace}
 use Rattle.stream_registry.specs.declared.pairs.Pair.{Pair}
-use Rattle.stream_registry.specs.declared.row.Source.{Source}
+use Rattle.stream_registry.specs.declared.row.LogRow.{LogRow}
 use Rattle.stream_registry.specs.Lingering.{place_of}
 use Rattle.stream_registry.specs.Origins.{is_remote}
 use Rattle.stream_registry.specs.Pairs.{pairs_of}
@@ -17,14 +17,14 @@ abbrev pub is_of_source : ℕ → Pair → Bool
 is_of_source source pair = pair.source == source
 
 -- some pair is of the log
-abbrev pub has_pair : List Pair → Source → Bool
+abbrev pub has_pair : List Pair → LogRow → Bool
 has_pair pairs log = list_any (is_of_source log.number) pairs
 
 -- an image of which no pair is
-abbrev pub is_unread : List Pair → Source → Bool
+abbrev pub is_unread : List Pair → LogRow → Bool
 is_unread pairs log = is_remote log && not (has_pair pairs log)
 
-abbrev pub is_kept : List Pair → Source → Bool
+abbrev pub is_kept : List Pair → LogRow → Bool
 is_kept pairs log = not (is_unread pairs log)
 
 -- their numbers
@@ -43,7 +43,7 @@ has_none [] = true
 has_none (number ∷ numbers) = false
 
 -- the numbers of the images beside which no subscription's number stands
-abbrev pub unread_beside : List Source → List (List ℕ) → List ℕ
+abbrev pub unread_beside : List LogRow → List (List ℕ) → List ℕ
 unread_beside [] readers = []
 unread_beside (log ∷ logs) [] = []
 unread_beside (log ∷ logs) (numbers ∷ readers) =
@@ -54,27 +54,27 @@ unread_beside (log ∷ logs) (numbers ∷ readers) =
 -- ---- where pairs go and come
 
 -- it is none of those that close
-abbrev pub is_left : List LogPlace → Source → Bool
+abbrev pub is_left : List LogPlace → LogRow → Bool
 is_left closes log = not (list_any (λ closed. closed.source == log.number) closes)
 
 -- some pair of the log stays where these go, or comes
-abbrev pub has_left : List Pair → List Pair → List Pair → Source → Bool
+abbrev pub has_left : List Pair → List Pair → List Pair → LogRow → Bool
 has_left pairs gone come log = has_pair (lacking pairs gone) log || has_pair come log
 
 -- it is one of those that close, or an image of which no pair is left
-abbrev pub is_closed : List Pair → List LogPlace → List Pair → List Pair → Source → Bool
+abbrev pub is_closed : List Pair → List LogPlace → List Pair → List Pair → LogRow → Bool
 is_closed pairs closes gone come log =
     not (is_left closes log) || (is_remote log && not (has_left pairs gone come log))
 
 -- by the subscriptions' numbers that stand beside it
-abbrev pub is_closed_beside : List LogPlace → List Pair → List Pair → Source → List ℕ → Bool
+abbrev pub is_closed_beside : List LogPlace → List Pair → List Pair → LogRow → List ℕ → Bool
 is_closed_beside closes gone come log numbers =
     not (is_left closes log)
     || (is_remote log
     && not (list_any (λ number. is_lacked_by gone (pair_at log.number number)) numbers || has_pair come log))
 
 -- so of each of these logs
-abbrev pub closed_beside : List LogPlace → List Pair → List Pair → List Source → List (List ℕ) → List LogPlace
+abbrev pub closed_beside : List LogPlace → List Pair → List Pair → List LogRow → List (List ℕ) → List LogPlace
 closed_beside closes gone come [] readers = []
 closed_beside closes gone come (log ∷ logs) [] = []
 closed_beside closes gone come (log ∷ logs) (numbers ∷ readers) =

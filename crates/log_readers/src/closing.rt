@@ -7,7 +7,7 @@ ghost use Rattle.stream_registry.specs.Lingering.{closed, stays_live};
 
 use crate::readers::Readers;
 use rows::{Rows, Test};
-use stream_registry::{Source, Streams, is_closing, is_image_of};
+use stream_registry::{LogRow, Streams, is_closing, is_image_of};
 
 /// Keeps the logs that don't close at this moment, where these images are silent.
 #[derive(Clone, Copy)]
@@ -16,10 +16,10 @@ struct Live<'a> {
     silent: &'a [u64],
 }
 
-impl Test<Source> for Live<'_> {
+impl Test<LogRow> for Live<'_> {
     ghost keeps = { λ test log. stays_live test.now test.silent.now log };
 
-    fn keeps(&self, log: &Source) -> bool {
+    fn keeps(&self, log: &LogRow) -> bool {
         !is_closing(log, self.now, self.silent)
     }
 }
@@ -30,16 +30,16 @@ struct Beside<'a> {
     numbers: &'a [u64],
 }
 
-impl Test<Source> for Beside<'_> {
+impl Test<LogRow> for Beside<'_> {
     ghost keeps = { λ test log. stays_beside test.numbers.now log };
 
-    fn keeps(&self, log: &Source) -> bool {
+    fn keeps(&self, log: &LogRow) -> bool {
         !is_image_of(log, self.numbers)
     }
 }
 
 /// Moves the rows of the logs that pass the test to the front, and says how many they are.
-fn settle<S: Test<Source>>(slots: &mut [Rows<u64, 512>], logs: &[Source], test: &S) -> usize
+fn settle<S: Test<LogRow>>(slots: &mut [Rows<u64, 512>], logs: &[LogRow], test: &S) -> usize
     requires { length slots.old ≡ length logs.now }
     ensures slots { length slots.new ≡ length slots.old }
     ensures few { result ≤ length logs.now }
@@ -56,7 +56,7 @@ fn settle<S: Test<Source>>(slots: &mut [Rows<u64, 512>], logs: &[Source], test: 
 }
 
 /// Moves the rows of the logs that pass the test to the front; there may be further slots.
-fn settle_used<S: Test<Source>>(slots: &mut Vec<Rows<u64, 512>>, logs: &[Source], test: &S) -> usize
+fn settle_used<S: Test<LogRow>>(slots: &mut Vec<Rows<u64, 512>>, logs: &[LogRow], test: &S) -> usize
     requires { length logs.now ≤ length slots.old.items }
     ensures slots { length slots.new.items ≡ length slots.old.items }
     ensures few { result ≤ length logs.now }
@@ -68,7 +68,7 @@ fn settle_used<S: Test<Source>>(slots: &mut Vec<Rows<u64, 512>>, logs: &[Source]
 
 impl Readers {
     /// The rows go of the logs that fail the test.
-    fn stay<S: Test<Source>>(&mut self, logs: &[Source], test: &S)
+    fn stay<S: Test<LogRow>>(&mut self, logs: &[LogRow], test: &S)
         requires { length self.old ≡ length logs.now }
         ensures { self.new ≡ beside (S.keeps test.now) logs.now self.old }
     {

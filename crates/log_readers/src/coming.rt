@@ -9,10 +9,10 @@ use byte_strings::Items;
 use client_registry::Clients;
 use policy_core::Standing;
 use std::alloc::{AllocError, Global};
-use stream_registry::{Pair, Source, Streams, Subscription, Wish, fits, is_allowed, reads};
+use stream_registry::{LogRow, Pair, Streams, Subscription, Wish, fits, is_allowed, reads};
 
 /// Puts the pairs of the subscription with the logs that it fits after the others.
-fn push_fitting(pairs: &mut Items<Pair>, logs: &[Source], wish: &Wish<'_>) -> Result<(), AllocError>
+fn push_fitting(pairs: &mut Items<Pair>, logs: &[LogRow], wish: &Wish<'_>) -> Result<(), AllocError>
     ensures { OnOk result (pairs.new ≡ pairs.old ++ map (pair_with (row_of wish.now)) (filter (λ log. fits log (row_of wish.now)) logs.now)) }
 {
     for log in logs {
@@ -27,7 +27,7 @@ fn push_fitting(pairs: &mut Items<Pair>, logs: &[Source], wish: &Wish<'_>) -> Re
 }
 
 /// How many of the logs the subscription fits.
-pub(crate) fn fitting(logs: &[Source], wish: &Wish<'_>) -> usize
+pub(crate) fn fitting(logs: &[LogRow], wish: &Wish<'_>) -> usize
     ensures exact { result ≡ length (filter (λ log. fits log (row_of wish.now)) logs.now) }
     ensures few { result ≤ length logs.now }
 {
@@ -82,7 +82,7 @@ fn readers_among(
     policy: &Standing<'_>,
     epoch: u64,
     subscriptions: &[Subscription],
-    log: &Source,
+    log: &LogRow,
 ) -> usize
     ensures exact { result ≡ length (pairs_at clients.now.rows policy.now epoch subscriptions.now log.now) }
     ensures few { result ≤ length subscriptions.now }
@@ -102,7 +102,7 @@ pub(crate) fn readers_of(
     clients: &Clients,
     policy: &Standing<'_>,
     epoch: u64,
-    log: &Source,
+    log: &LogRow,
 ) -> usize
     ensures exact { result ≡ length (pairs_at clients.now.rows policy.now epoch streams.now.subscriptions log.now) }
     ensures few { result ≤ 512 }

@@ -11,7 +11,7 @@ ghost use Rattle.stream_registry.specs.Pairs.{is_of, pairs_of};
 
 use crate::readers::Readers;
 use rows::Rows;
-use stream_registry::{Source, Streams};
+use stream_registry::{LogRow, Streams};
 
 /// Whether the number is one of these.
 pub(crate) fn is_among(numbers: &[u64], number: u64) -> bool
@@ -21,7 +21,7 @@ pub(crate) fn is_among(numbers: &[u64], number: u64) -> bool
 }
 
 /// The numbers that stand at the log of that source: none where it is not there.
-fn numbers_at<'a>(logs: &[Source], slots: &'a [Rows<u64, 512>], source: u64) -> &'a [u64]
+fn numbers_at<'a>(logs: &[LogRow], slots: &'a [Rows<u64, 512>], source: u64) -> &'a [u64]
     requires { length slots.now ≡ length logs.now }
     ensures exact { result.now ≡ numbers_at source logs.now slots.now }
     ensures few { length result.now ≤ 512 }

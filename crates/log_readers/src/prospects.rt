@@ -13,7 +13,7 @@ use crate::coming::fitting;
 use client_registry::Clients;
 use policy_core::Policy;
 use stream_registry::{
-    Adding, ImageWanted, Source, Streams, Subscription, Wanted, Wish, fits, is_ever_allowed,
+    Adding, ImageWanted, LogRow, Streams, Subscription, Wanted, Wish, fits, is_ever_allowed,
 };
 
 /// How many of the logs the subscription reads, or will.
@@ -40,7 +40,7 @@ fn ever_reads(
     policy: &Policy,
     moment: u64,
     epoch: u64,
-    log: &Source,
+    log: &LogRow,
     wish: &Wish<'_>,
 ) -> bool
     ensures { result ≡ is_prospect clients.now.rows (at policy.now moment) (coming policy.now moment) epoch log.now (row_of wish.now) }
@@ -55,7 +55,7 @@ fn ever_readers_among(
     moment: u64,
     epoch: u64,
     subscriptions: &[Subscription],
-    log: &Source,
+    log: &LogRow,
 ) -> usize
     ensures exact { result ≡ length (prospects_at clients.now.rows (at policy.now moment) (coming policy.now moment) epoch subscriptions.now log.now) }
     ensures few { result ≤ length subscriptions.now }
@@ -76,7 +76,7 @@ fn ever_readers_of(
     policy: &Policy,
     moment: u64,
     epoch: u64,
-    log: &Source,
+    log: &LogRow,
 ) -> usize
     ensures exact { result ≡ length (prospects_at clients.now.rows (at policy.now moment) (coming policy.now moment) epoch streams.now.subscriptions log.now) }
     ensures few { result ≤ 512 }

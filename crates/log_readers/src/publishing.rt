@@ -6,7 +6,7 @@ use crate::readers::Readers;
 use client_registry::Clients;
 use policy_core::Standing;
 use rows::Rows;
-use stream_registry::{Adding, Source, Streams, Subscription, Wanted, reads};
+use stream_registry::{Adding, LogRow, Streams, Subscription, Wanted, reads};
 
 /// Asks which of these subscriptions read the log.
 fn ask_at(
@@ -15,7 +15,7 @@ fn ask_at(
     policy: &Standing<'_>,
     epoch: u64,
     subscriptions: &[Subscription],
-    log: &Source,
+    log: &LogRow,
 )
     requires { length subscriptions.now ≤ 512 }
     ensures { numbers.new ≡ readers_at clients.now.rows policy.now epoch subscriptions.now log.now }
@@ -37,7 +37,7 @@ impl Readers {
         epoch: u64,
         logs: usize,
         subscriptions: &[Subscription],
-        log: &Source,
+        log: &LogRow,
     )
         requires same { length self.old ≡ logs }
         requires room { logs < 768 }

@@ -12,7 +12,7 @@ use policy_core::Standing;
 use rows::{Rows, Test};
 use std::alloc::{AllocError, Global};
 use std::marker::Model;
-use stream_registry::{Source, Streams, Subscription, Wish, fits, is_allowed};
+use stream_registry::{LogRow, Streams, Subscription, Wish, fits, is_allowed};
 
 /// How many logs there are at most: 256 publications and 512 images.
 const LOGS: usize = 768;
@@ -67,7 +67,7 @@ fn empty_used(slots: &mut Vec<Rows<u64, 512>>, logs: usize)
 }
 
 /// Puts the subscription's number after those of the log, where it fits.
-fn note_at(numbers: &mut Rows<u64, 512>, log: &Source, wish: &Wish<'_>)
+fn note_at(numbers: &mut Rows<u64, 512>, log: &LogRow, wish: &Wish<'_>)
     requires { length numbers.old < 512 }
     ensures { numbers.new ≡ noted_at (row_of wish.now) log.now numbers.old }
 {
@@ -77,7 +77,7 @@ fn note_at(numbers: &mut Rows<u64, 512>, log: &Source, wish: &Wish<'_>)
 }
 
 /// Puts the subscription's number after those of the logs that it fits.
-fn note_all(slots: &mut [Rows<u64, 512>], logs: &[Source], wish: &Wish<'_>)
+fn note_all(slots: &mut [Rows<u64, 512>], logs: &[LogRow], wish: &Wish<'_>)
     requires same { length slots.old ≡ length logs.now }
     requires room { All (λ numbers. length numbers < 512) slots.old }
     ensures { slots.new ≡ noted (row_of wish.now) logs.now slots.old }
@@ -88,7 +88,7 @@ fn note_all(slots: &mut [Rows<u64, 512>], logs: &[Source], wish: &Wish<'_>)
 }
 
 /// Puts the subscription's number after those of the logs that it fits; there may be further slots.
-fn note_used(slots: &mut Vec<Rows<u64, 512>>, logs: &[Source], wish: &Wish<'_>)
+fn note_used(slots: &mut Vec<Rows<u64, 512>>, logs: &[LogRow], wish: &Wish<'_>)
     requires slots { length logs.now ≤ length slots.old.items }
     requires room { All (λ numbers. length numbers < 512) (take (length logs.now) slots.old.items) }
     ensures slots { length slots.new.items ≡ length slots.old.items }
@@ -170,7 +170,7 @@ impl Readers {
     }
 
     /// The logs have no readers.
-    fn empty(&mut self, logs: &[Source])
+    fn empty(&mut self, logs: &[LogRow])
         requires { length logs.now ≤ 768 }
         ensures { self.new ≡ map (λ log. []) logs.now }
     {
@@ -191,7 +191,7 @@ impl Readers {
         clients: &Clients,
         policy: &Standing<'_>,
         epoch: u64,
-        logs: &[Source],
+        logs: &[LogRow],
         wish: &Wish<'_>,
     )
         requires same { length self.old ≡ length logs.now }
@@ -209,7 +209,7 @@ impl Readers {
         clients: &Clients,
         policy: &Standing<'_>,
         epoch: u64,
-        logs: &[Source],
+        logs: &[LogRow],
         subscriptions: &[Subscription],
     )
         requires few_logs { length logs.now ≤ 768 }

@@ -16,7 +16,7 @@ use client_registry::Clients;
 use policy_core::Standing;
 use rows::Rows;
 use std::alloc::{AllocError, Global};
-use stream_registry::{Pair, Source, Streams, Subscription, fits, is_allowed};
+use stream_registry::{LogRow, Pair, Streams, Subscription, fits, is_allowed};
 
 /// The pairs that go and those that come, each by source and then subscription.
 #[derive(Debug, Drop)]
@@ -66,7 +66,7 @@ fn push_turned_at(
     turnover: &mut Turnover,
     subscriptions: &[Subscription],
     allowed: &[bool],
-    log: &Source,
+    log: &LogRow,
     numbers: &[u64],
 ) -> Result<(), AllocError>
     requires { length allowed.now ≡ length subscriptions.now }
@@ -91,7 +91,7 @@ fn push_turned_over(
     turnover: &mut Turnover,
     subscriptions: &[Subscription],
     allowed: &[bool],
-    logs: &[Source],
+    logs: &[LogRow],
     slots: &[Rows<u64, 512>],
 ) -> Result<(), AllocError>
     requires allowed { length allowed.now ≡ length subscriptions.now }

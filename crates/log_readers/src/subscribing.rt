@@ -12,7 +12,7 @@ use crate::readers::Readers;
 use client_registry::Clients;
 use policy_core::Standing;
 use rows::{Rows, Test};
-use stream_registry::{Source, Streams, Wish, fits};
+use stream_registry::{LogRow, Streams, Wish, fits};
 
 /// Keeps all numbers but this one.
 #[derive(Clone, Copy)]
@@ -29,7 +29,7 @@ impl Test<u64> for Unlike {
 }
 
 /// Takes the subscription's number away from those of the log. Where they don't fit it is not among them.
-fn forget_at(numbers: &mut Rows<u64, 512>, log: &Source, wish: &Wish<'_>)
+fn forget_at(numbers: &mut Rows<u64, 512>, log: &LogRow, wish: &Wish<'_>)
     ensures { numbers.new ≡ forgotten_at (row_of wish.now) log.now numbers.old }
 {
     if fits(log, wish) {
@@ -40,7 +40,7 @@ fn forget_at(numbers: &mut Rows<u64, 512>, log: &Source, wish: &Wish<'_>)
 }
 
 /// Takes the subscription's number away from those of the logs that it fits.
-fn forget_all(slots: &mut [Rows<u64, 512>], logs: &[Source], wish: &Wish<'_>)
+fn forget_all(slots: &mut [Rows<u64, 512>], logs: &[LogRow], wish: &Wish<'_>)
     requires { length slots.old ≡ length logs.now }
     ensures { slots.new ≡ forgotten (row_of wish.now) logs.now slots.old }
 {
@@ -50,7 +50,7 @@ fn forget_all(slots: &mut [Rows<u64, 512>], logs: &[Source], wish: &Wish<'_>)
 }
 
 /// Takes the subscription's number away from those of the logs that it fits; there may be further slots.
-fn forget_used(slots: &mut Vec<Rows<u64, 512>>, logs: &[Source], wish: &Wish<'_>)
+fn forget_used(slots: &mut Vec<Rows<u64, 512>>, logs: &[LogRow], wish: &Wish<'_>)
     requires { length logs.now ≤ length slots.old.items }
     ensures slots { length slots.new.items ≡ length slots.old.items }
     ensures forgotten { take (length logs.now) slots.new.items ≡ forgotten (row_of wish.now) logs.now (take (length logs.now) slots.old.items) }
@@ -78,7 +78,7 @@ impl Readers {
     }
 
     /// The subscription reads none of these logs any more.
-    fn forget(&mut self, logs: &[Source], wish: &Wish<'_>)
+    fn forget(&mut self, logs: &[LogRow], wish: &Wish<'_>)
         requires { length self.old ≡ length logs.now }
         ensures { self.new ≡ forgotten (row_of wish.now) logs.now self.old }
     {

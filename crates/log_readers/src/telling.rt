@@ -15,7 +15,7 @@ use crate::readers::Readers;
 use byte_strings::Items;
 use rows::{Rows, Test};
 use std::alloc::{AllocError, Global};
-use stream_registry::{LogPlace, Pair, Source, Streams, Subscription, Wish, fits};
+use stream_registry::{LogPlace, LogRow, Pair, Streams, Subscription, Wish, fits};
 
 /// Keeps all pairs.
 #[derive(Clone, Copy)]
@@ -129,7 +129,7 @@ fn push_row<S: Test<Pair>>(
 /// Puts the pairs of these logs that pass the test after the others.
 fn push_rows<S: Test<Pair>>(
     pairs: &mut Items<Pair>,
-    logs: &[Source],
+    logs: &[LogRow],
     slots: &[Rows<u64, 512>],
     test: &S,
 ) -> Result<(), AllocError>
@@ -145,7 +145,7 @@ fn push_rows<S: Test<Pair>>(
 /// Puts the pair of the subscription with this log after the others. Where they don't fit, its number is not looked for.
 fn push_fitting(
     pairs: &mut Items<Pair>,
-    log: &Source,
+    log: &LogRow,
     numbers: &[u64],
     wish: &Wish<'_>,
 ) -> Result<(), AllocError>
@@ -163,7 +163,7 @@ fn push_fitting(
 /// Puts the pairs of the subscription with these logs after the others.
 fn push_all_fitting(
     pairs: &mut Items<Pair>,
-    logs: &[Source],
+    logs: &[LogRow],
     slots: &[Rows<u64, 512>],
     wish: &Wish<'_>,
 ) -> Result<(), AllocError>
@@ -188,7 +188,7 @@ impl Readers {
     fn pairs_that<S: Test<Pair>>(
         &self,
         alloc: Global,
-        logs: &[Source],
+        logs: &[LogRow],
         test: &S,
     ) -> Result<Items<Pair>, AllocError>
         requires { length self.now ≡ length logs.now }

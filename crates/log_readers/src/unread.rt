@@ -18,10 +18,10 @@ use arrayvec::ArrayVec;
 use byte_strings::Items;
 use rows::Rows;
 use std::alloc::{AllocError, Global};
-use stream_registry::{LogPlace, Pair, Source, Streams};
+use stream_registry::{LogPlace, LogRow, Pair, Streams};
 
 /// The numbers of the images beside which no subscription's number stands.
-fn unread_beside(logs: &[Source], slots: &[Rows<u64, 512>]) -> ArrayVec<u64, 512>
+fn unread_beside(logs: &[LogRow], slots: &[Rows<u64, 512>]) -> ArrayVec<u64, 512>
     requires same { length slots.now ≡ length logs.now }
     requires few { length (filter is_remote logs.now) ≤ 512 }
     ensures { result.items ≡ unread_beside logs.now slots.now }
@@ -38,14 +38,14 @@ fn unread_beside(logs: &[Source], slots: &[Rows<u64, 512>]) -> ArrayVec<u64, 512
 
 /// Whether it is an image beside which no subscription's number stands. Where one does, the log is not looked at.
 #[tactic(auto, using(crate::proofs::UnreadLemmas::empty_is))]
-fn is_unread(log: &Source, numbers: &[u64]) -> bool
+fn is_unread(log: &LogRow, numbers: &[u64]) -> bool
     ensures { result ≡ (has_none numbers.now && is_remote log.now) }
 {
     numbers.is_empty() && !log.is_published()
 }
 
 /// Whether beside each image some subscription's number stands.
-fn are_all_read(logs: &[Source], slots: &[Rows<u64, 512>]) -> bool
+fn are_all_read(logs: &[LogRow], slots: &[Rows<u64, 512>]) -> bool
     requires { length slots.now ≡ length logs.now }
     ensures { result ≡ has_none (unread_beside logs.now slots.now) }
 {
@@ -85,7 +85,7 @@ fn has_staying(source: u64, numbers: &[u64], gone: &[Pair]) -> bool
 }
 
 /// Whether one of these pairs is of the log.
-fn has_pair(pairs: &[Pair], log: &Source) -> bool
+fn has_pair(pairs: &[Pair], log: &LogRow) -> bool
     ensures { result ≡ has_pair pairs.now log.now }
 {
     pairs.iter().any(|pair| pair.source == log.number)
@@ -99,7 +99,7 @@ fn has_place(closes: &[LogPlace], source: u64) -> bool
 }
 
 /// Whether the log is none of those that close.
-fn is_left(closes: &[LogPlace], log: &Source) -> bool
+fn is_left(closes: &[LogPlace], log: &LogRow) -> bool
     ensures { result ≡ is_left closes.now log.now }
 {
     !has_place(closes, log.number)
@@ -110,7 +110,7 @@ fn is_closed(
     closes: &[LogPlace],
     gone: &[Pair],
     come: &[Pair],
-    log: &Source,
+    log: &LogRow,
     numbers: &[u64],
 ) -> bool
     ensures { result ≡ is_closed_beside closes.now gone.now come.now log.now numbers.now }
@@ -125,7 +125,7 @@ fn push_closed(
     closes: &[LogPlace],
     gone: &[Pair],
     come: &[Pair],
-    logs: &[Source],
+    logs: &[LogRow],
     slots: &[Rows<u64, 512>],
 ) -> Result<(), AllocError>
     requires { length slots.now ≡ length logs.now }

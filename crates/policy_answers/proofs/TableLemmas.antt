@@ -3,7 +3,7 @@ use Rattle.std.proofs.Common.{◌≡◌, ◌<◌, ◌≤◌, Bool, true, IfErr, 
 use Rattle.std.specs.Prelude.{Result, Ok, Err}
 use Rattle.policy_core.specs.RuleList.{Rules}
 use Rattle.policy_table.specs.declared.table.Table.{Table}
-use Rattle.policy_tools.specs.Source.{Sourced}
+use Rattle.policy_tools.specs.WrittenPolicy.{Sourced}
 use Rattle.policy_answers.specs.Tables.{GivesTable, IsTableThen}
 use Rattle.policy_answers.specs.declared.fault.AskFault.{AskFault}
 use Rattle.policy_answers.specs.declared.fault.AskFault.TheVariants as faults

@@ -7,7 +7,7 @@ use Rattle.policy_query.specs.declared.document.Document.{Document}
 use Rattle.policy_table.specs.Printed.{IsOfOne}
 use Rattle.policy_table.specs.declared.table.Table.{Table}
 use Rattle.policy_text.specs.Names.{Known, number_of}
-use Rattle.policy_tools.specs.Source.{Sourced}
+use Rattle.policy_tools.specs.WrittenPolicy.{Sourced}
 use Rattle.policy_answers.specs.Fault.{Fails}
 use Rattle.policy_answers.specs.declared.answer.Answer.{Answer}
 use Rattle.policy_answers.specs.declared.fault.AskFault.{AskFault}

@@ -26,7 +26,7 @@ use policy_diff::{Change, changes_of, differences};
 use policy_lint::{Fault, Note, Report, lint};
 use policy_query::Document;
 use policy_table::{Table, TableRow};
-use policy_tools::{Case, Directory, Source, cases_in, name_at, principals_text};
+use policy_tools::{Case, Directory, WrittenPolicy, cases_in, name_at, principals_text};
 use std::alloc::{AllocError, Global};
 
 /// The number of a rule, with more bits.
@@ -165,7 +165,7 @@ fn made_of(alloc: Global, rule: &Rule, directory: &Directory) -> Result<Made, Al
 
 /// The row of a rule, whose place is counted from 0.
 fn row_of<'a>(
-    source: &'a Source,
+    source: &'a WrittenPolicy,
     at: usize,
     rule: &'a Rule,
     made: &'a Made,
@@ -187,7 +187,11 @@ fn row_of<'a>(
 }
 
 /// The rules of a policy, and its default.
-fn shown_line(alloc: Global, source: &Source, directory: &Directory) -> Result<Answer, AllocError>
+fn shown_line(
+    alloc: Global,
+    source: &WrittenPolicy,
+    directory: &Directory,
+) -> Result<Answer, AllocError>
     ensures { IfOk result (λ answer. answer.is_well ≡ true) }
 {
     let rules = source.rules();
@@ -216,7 +220,7 @@ pub fn show_json(
 ) -> Result<Answer, AskFault>
     ensures { Gives (λ answer. answer.is_well) result (list_well directory.now policy.now) }
 {
-    let source = Source::read(alloc, policy, directory.names())?;
+    let source = WrittenPolicy::read(alloc, policy, directory.names())?;
     Ok(shown_line(alloc, &source, directory)?)
 }
 
@@ -352,7 +356,7 @@ pub fn try_cases_json(
 ) -> Result<Answer, AskFault>
     ensures { Gives (λ answer. answer.is_well) result (try_well directory.now policy.now cases.now moment) }
 {
-    let mut source = Source::read(alloc, policy, directory.names())?;
+    let mut source = WrittenPolicy::read(alloc, policy, directory.names())?;
     source.settle(moment);
     let cases = cases_in(alloc, cases, directory)?;
     Ok(report_of(alloc, source.policy(), cases.as_slice())?)
@@ -376,7 +380,7 @@ fn acts_of(alloc: Global, changes: &[Change]) -> Result<Vec<Vec<Text>>, AllocErr
 }
 
 /// Whether the old policy allows what a row says.
-fn allowed_before(old: &Source, place: Option<usize>) -> bool {
+fn allowed_before(old: &WrittenPolicy, place: Option<usize>) -> bool {
     match place {
         Some(at) => match old.rules().get(at) {
             Some(rule) => rule.allow,
@@ -387,7 +391,11 @@ fn allowed_before(old: &Source, place: Option<usize>) -> bool {
 }
 
 /// The row of a change.
-fn change_row<'a>(old: &Source, change: &'a Change, acts: &'a [Text]) -> json_answers::Change<'a> {
+fn change_row<'a>(
+    old: &WrittenPolicy,
+    change: &'a Change,
+    acts: &'a [Text],
+) -> json_answers::Change<'a> {
     json_answers::Change {
         principal: change.principal.as_str(),
         acts,
@@ -402,7 +410,11 @@ fn change_row<'a>(old: &Source, change: &'a Change, acts: &'a [Text]) -> json_an
 }
 
 /// The rows of a difference, as a line.
-fn changes_line(alloc: Global, old: &Source, changes: &[Change]) -> Result<String, AllocError> {
+fn changes_line(
+    alloc: Global,
+    old: &WrittenPolicy,
+    changes: &[Change],
+) -> Result<String, AllocError> {
     let acts = acts_of(alloc, changes)?;
     let mut rows = Vec::new(alloc);
     for (change, acts) in changes.iter().zip(acts.as_slice()) {
@@ -426,8 +438,8 @@ pub fn compare_json(
     ensures alike { IfOk result (λ answer. answer.is_well ≡ true → (before : Rules) (after : Rules) → policy_in directory.now old.now ≡ Ok before → policy_in directory.now new.now ≡ Ok after → DecideAlike (at before moment) (at after moment)) }
     ensures apart { IfOk result (λ answer. answer.is_well ≡ false → answer.is_sure ≡ true → (before : Rules) (after : Rules) → policy_in directory.now old.now ≡ Ok before → policy_in directory.now new.now ≡ Ok after → DecideApart (at before moment) (at after moment)) }
 {
-    let mut old = Source::read(alloc, old, directory.names())?;
-    let mut new = Source::read(alloc, new, directory.names())?;
+    let mut old = WrittenPolicy::read(alloc, old, directory.names())?;
+    let mut new = WrittenPolicy::read(alloc, new, directory.names())?;
     old.settle(moment);
     new.settle(moment);
     let rows = differences(alloc, &old, &new, directory)?;

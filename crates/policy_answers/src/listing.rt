@@ -12,7 +12,7 @@ use crate::fault::{AskFault, RowCount};
 use byte_strings::Text;
 use policy_query::Document;
 use policy_table::{MOST_ROWS, Table};
-use policy_tools::{Directory, Source};
+use policy_tools::{Directory, WrittenPolicy};
 use std::alloc::{AllocError, Global};
 
 /// The rules of the policy, a line each, and its default.
@@ -22,7 +22,7 @@ use std::alloc::{AllocError, Global};
 pub fn show(alloc: Global, policy: &Document<'_>, directory: &Directory) -> Result<Answer, AskFault>
     ensures { Gives (λ answer. answer.is_well) result (list_well directory.now policy.now) }
 {
-    let source = Source::read(alloc, policy, directory.names())?;
+    let source = WrittenPolicy::read(alloc, policy, directory.names())?;
     Ok(Answer::of(policy_tools::show(alloc, &source, directory)?))
 }
 
@@ -50,7 +50,7 @@ pub fn table_of_all(
 ) -> Result<Table, AskFault>
     ensures { GivesTable IsWhole result (list_well directory.now policy.now) (policy_then directory.now policy.now moment) }
 {
-    let mut source = Source::read(alloc, policy, directory.names())?;
+    let mut source = WrittenPolicy::read(alloc, policy, directory.names())?;
     source.settle(moment);
     short_enough(Table::of_all(alloc, source, directory)?)
 }
@@ -68,7 +68,7 @@ pub fn table_of_one(
 ) -> Result<Table, AskFault>
     ensures { GivesTable (IsOfOneNamed directory.now principal.now) result (table_well directory.now policy.now principal.now) (policy_then directory.now policy.now moment) }
 {
-    let mut source = Source::read(alloc, policy, directory.names())?;
+    let mut source = WrittenPolicy::read(alloc, policy, directory.names())?;
     source.settle(moment);
     let number = directory
         .number_of(principal)

@@ -10,7 +10,7 @@ use crate::fault::AskFault;
 use channel_uri::Channel;
 use policy_core::{Act, Request, Rule};
 use policy_query::{DecideFault, Document};
-use policy_tools::{Directory, Explanation, Reason, Source, explained, nearest, reasons_of};
+use policy_tools::{Directory, Explanation, Reason, WrittenPolicy, explained, nearest, reasons_of};
 use std::alloc::{AllocError, Global};
 
 /// How many rules the policy has: `ok: 2 rules`.
@@ -69,7 +69,7 @@ fn channel_of(word: &str) -> Result<Channel, AskFault>
 /// What was found of a question, with the policy that was asked.
 #[derive(Drop)]
 pub(crate) struct Explained {
-    pub(crate) source: Source,
+    pub(crate) source: WrittenPolicy,
     pub(crate) found: Explanation,
     pub(crate) reasons: Vec<Reason>,
 }
@@ -83,7 +83,7 @@ fn before(rules: &[Rule], count: usize) -> &[Rule] {
 /// that come nearest to a match.
 fn explained_by(
     alloc: Global,
-    source: Source,
+    source: WrittenPolicy,
     request: &Request<'_>,
     near: Option<u64>,
 ) -> Result<Explained, AllocError> {
@@ -118,7 +118,7 @@ pub(crate) fn explanation(
 ) -> Result<Explained, AskFault>
     ensures { Gives (λ explained. true) result (explain_well directory.now policy.now principal.now act.now channel.now) }
 {
-    let mut source = Source::read(alloc, policy, directory.names())?;
+    let mut source = WrittenPolicy::read(alloc, policy, directory.names())?;
     source.settle(moment);
     let principal = directory
         .number_of(principal)

@@ -19,7 +19,7 @@ use policy_core::Policy;
 use policy_diff::{Row, are_apart, diff_text, differences};
 use policy_lint::lint;
 use policy_query::Document;
-use policy_tools::{Case, Directory, Failure, Report, Source, cases_in};
+use policy_tools::{Case, Directory, Failure, Report, WrittenPolicy, cases_in};
 use std::alloc::{AllocError, Global};
 
 /// What is wrong with a file as a policy, and what is likely not meant at a moment: `soon` is the period within which a rule that
@@ -93,7 +93,7 @@ pub fn try_cases(
 ) -> Result<Answer, AskFault>
     ensures { Gives (λ answer. answer.is_well) result (try_well directory.now policy.now cases.now moment) }
 {
-    let mut source = Source::read(alloc, policy, directory.names())?;
+    let mut source = WrittenPolicy::read(alloc, policy, directory.names())?;
     source.settle(moment);
     let cases = cases_in(alloc, cases, directory)?;
     Ok(tried(alloc, source.policy(), cases.as_slice())?)
@@ -127,8 +127,8 @@ pub fn compare(
     ensures alike { IfOk result (λ answer. answer.is_well ≡ true → (before : Rules) (after : Rules) → policy_in directory.now old.now ≡ Ok before → policy_in directory.now new.now ≡ Ok after → DecideAlike (at before moment) (at after moment)) }
     ensures apart { IfOk result (λ answer. answer.is_well ≡ false → answer.is_sure ≡ true → (before : Rules) (after : Rules) → policy_in directory.now old.now ≡ Ok before → policy_in directory.now new.now ≡ Ok after → DecideApart (at before moment) (at after moment)) }
 {
-    let mut old = Source::read(alloc, old, directory.names())?;
-    let mut new = Source::read(alloc, new, directory.names())?;
+    let mut old = WrittenPolicy::read(alloc, old, directory.names())?;
+    let mut new = WrittenPolicy::read(alloc, new, directory.names())?;
     old.settle(moment);
     new.settle(moment);
     let rows = differences(alloc, &old, &new, directory)?;

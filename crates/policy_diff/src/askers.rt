@@ -3,7 +3,7 @@ ghost use Rattle.policy_diff.specs.Askers.{AddsNamed, is_among};
 ghost use Rattle.std.specs.Prelude.{◌≡◌, OnOk};
 
 use policy_core::{Principals, Rule};
-use policy_tools::{Directory, Source};
+use policy_tools::{Directory, WrittenPolicy};
 use std::alloc::AllocError;
 
 /// Whether the number is one of these.
@@ -55,7 +55,7 @@ fn names(principals: Principals, principal: u32) -> bool
 
 /// Somebody whom no rule of either policy names: the first one from 1 on that has a name in the directory; else the first one from
 /// 0 on.
-pub(crate) fn stranger_in(old: &Source, new: &Source, directory: &Directory) -> u32 {
+pub(crate) fn stranger_in(old: &WrittenPolicy, new: &WrittenPolicy, directory: &Directory) -> u32 {
     let mut stranger = None;
     for number in 0..4096 {
         if !is_named(old.rules(), number) && !is_named(new.rules(), number) {

@@ -6,7 +6,7 @@ use crate::examples::Example;
 use crate::pairs::Deciders;
 use byte_strings::Text;
 use policy_core::Acts;
-use policy_tools::{Directory, Source};
+use policy_tools::{Directory, WrittenPolicy};
 use std::alloc::{AllocError, Global};
 
 /// What a row says, in parts.
@@ -43,8 +43,8 @@ fn example_of(
 /// What a row says.
 pub(crate) fn change_of(
     alloc: Global,
-    old: &Source,
-    new: &Source,
+    old: &WrittenPolicy,
+    new: &WrittenPolicy,
     row: &Row,
     directory: &Directory,
 ) -> Result<Change, AllocError> {
@@ -63,8 +63,8 @@ pub(crate) fn change_of(
 /// What the rows of two policies say, in their order.
 pub fn changes_of(
     alloc: Global,
-    old: &Source,
-    new: &Source,
+    old: &WrittenPolicy,
+    new: &WrittenPolicy,
     rows: &[Row],
     directory: &Directory,
 ) -> Result<Vec<Change>, AllocError> {

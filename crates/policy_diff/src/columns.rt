@@ -7,7 +7,9 @@ use crate::scope::Asker;
 use byte_strings::Text;
 use channel_uri::Media;
 use policy_core::Principals;
-use policy_tools::{Directory, Relation, Source, patterns_pass, plain, principals_text, word_of};
+use policy_tools::{
+    Directory, Relation, WrittenPolicy, patterns_pass, plain, principals_text, word_of,
+};
 use std::alloc::{AllocError, Global};
 
 /// The channels that both patterns may cover: the text of the one that the other covers, or both texts.
@@ -29,8 +31,8 @@ fn common_channels(
 /// The channels of a row.
 pub(crate) fn channel_cell(
     alloc: Global,
-    old: &Source,
-    new: &Source,
+    old: &WrittenPolicy,
+    new: &WrittenPolicy,
     deciders: Deciders,
 ) -> Result<Text, AllocError> {
     match (written_at(old, deciders.old), written_at(new, deciders.new)) {
@@ -44,7 +46,7 @@ pub(crate) fn channel_cell(
 /// The word of what decides, and what that is.
 fn decider_text(
     alloc: Global,
-    source: &Source,
+    source: &WrittenPolicy,
     decider: Option<usize>,
 ) -> Result<Text, AllocError> {
     let Some(rule) = rule_at(source, decider) else {
@@ -60,8 +62,8 @@ fn decider_text(
 /// What decides now, and what would.
 pub(crate) fn change_cell(
     alloc: Global,
-    old: &Source,
-    new: &Source,
+    old: &WrittenPolicy,
+    new: &WrittenPolicy,
     deciders: Deciders,
 ) -> Result<Text, AllocError> {
     let (before, after) = (

@@ -7,11 +7,16 @@ use crate::pairs::Deciders;
 use crate::scope::{Scope, may_reach};
 use channel_uri::Pattern;
 use policy_core::{Act, Acts, Principals, Rule};
-use policy_tools::{Relation, Source, patterns_pass};
+use policy_tools::{Relation, WrittenPolicy, patterns_pass};
 use std::alloc::{AllocError, Global};
 
 /// Whether the pattern of the rule at a place may cover a channel that the pattern of what decides covers.
-fn may_cover(source: &Source, at: usize, of: &Source, decider: Option<usize>) -> bool {
+fn may_cover(
+    source: &WrittenPolicy,
+    at: usize,
+    of: &WrittenPolicy,
+    decider: Option<usize>,
+) -> bool {
     if at >= source.rules().len() {
         return false;
     }
@@ -28,10 +33,10 @@ fn may_cover(source: &Source, at: usize, of: &Source, decider: Option<usize>) ->
 /// The places of the rules of a policy before what decides in it that may take requests of the scope from the two.
 pub(crate) fn rivals_of(
     alloc: Global,
-    source: &Source,
+    source: &WrittenPolicy,
     decider: Option<usize>,
-    old: &Source,
-    new: &Source,
+    old: &WrittenPolicy,
+    new: &WrittenPolicy,
     deciders: Deciders,
     scope: &Scope,
 ) -> Result<Vec<usize>, AllocError> {

@@ -21,7 +21,7 @@ use crate::showing::example_among;
 use crate::taking::is_taken;
 use channel_uri::Channel;
 use policy_core::{Act, Acts};
-use policy_tools::{Directory, Source};
+use policy_tools::{Directory, WrittenPolicy};
 use std::alloc::{AllocError, Global};
 
 /// Requests that are decided otherwise by the new policy than by the old one.
@@ -38,8 +38,8 @@ pub struct Row {
 /// What is looked at for a pair of what decides.
 #[derive(Drop)]
 struct Pair<'a> {
-    before: &'a Source,
-    after: &'a Source,
+    before: &'a WrittenPolicy,
+    after: &'a WrittenPolicy,
     deciders: Deciders,
     /// The places of the old policy's rules that may take requests from the two.
     old_rivals: Vec<usize>,
@@ -268,8 +268,8 @@ impl Pair<'_> {
 /// What is looked at for the two.
 fn pair_of<'a>(
     alloc: Global,
-    old: &'a Source,
-    new: &'a Source,
+    old: &'a WrittenPolicy,
+    new: &'a WrittenPolicy,
     deciders: Deciders,
     scope: &Scope,
     stranger: u32,
@@ -288,7 +288,7 @@ fn pair_of<'a>(
 }
 
 /// Whether the two have one word.
-fn have_one_word(old: &Source, new: &Source, deciders: Deciders) -> bool
+fn have_one_word(old: &WrittenPolicy, new: &WrittenPolicy, deciders: Deciders) -> bool
     ensures same { result ≡ true → word_of old.now.policy deciders.old ≡ word_of new.now.policy deciders.new }
     ensures apart { result ≡ false → AreWordsApart old.now.policy new.now.policy deciders }
 {
@@ -298,8 +298,8 @@ fn have_one_word(old: &Source, new: &Source, deciders: Deciders) -> bool
 /// Adds the rows of the two, if they have different words.
 fn push_pair(
     alloc: Global,
-    old: &Source,
-    new: &Source,
+    old: &WrittenPolicy,
+    new: &WrittenPolicy,
     deciders: Deciders,
     named: &[u32],
     stranger: u32,
@@ -317,7 +317,7 @@ fn push_pair(
 }
 
 /// The principals that rules of the policies name.
-fn named_of(alloc: Global, old: &Source, new: &Source) -> Result<Vec<u32>, AllocError>
+fn named_of(alloc: Global, old: &WrittenPolicy, new: &WrittenPolicy) -> Result<Vec<u32>, AllocError>
     ensures { IfOk result (λ named. AreNamed old.now.policy new.now.policy named.items) }
 {
     let mut named = Vec::new(alloc);
@@ -329,8 +329,8 @@ fn named_of(alloc: Global, old: &Source, new: &Source) -> Result<Vec<u32>, Alloc
 /// Adds the rows of each of the pairs.
 fn push_pairs(
     alloc: Global,
-    old: &Source,
-    new: &Source,
+    old: &WrittenPolicy,
+    new: &WrittenPolicy,
     pairs: &[Deciders],
     named: &[u32],
     stranger: u32,
@@ -351,8 +351,8 @@ fn push_pairs(
 /// last one.
 pub fn differences(
     alloc: Global,
-    old: &Source,
-    new: &Source,
+    old: &WrittenPolicy,
+    new: &WrittenPolicy,
     directory: &Directory,
 ) -> Result<Vec<Row>, AllocError>
     ensures { IfOk result (λ rows. IsDiff old.now.policy new.now.policy rows.items) }

@@ -2,7 +2,7 @@ use crate::pairs::Deciders;
 use crate::requests::{ENDS, Written, channel_over, has_beginning, medium_of};
 use channel_uri::{Channel, Media};
 use policy_core::{Act, Rule};
-use policy_tools::Source;
+use policy_tools::WrittenPolicy;
 use std::alloc::{AllocError, Global};
 
 /// A request that is decided by the two of a row.
@@ -19,12 +19,12 @@ pub struct Example {
 }
 
 /// The rule that decides, where it is one.
-pub(crate) fn rule_at(source: &Source, decider: Option<usize>) -> Option<&Rule> {
+pub(crate) fn rule_at(source: &WrittenPolicy, decider: Option<usize>) -> Option<&Rule> {
     source.rules().get(decider?)
 }
 
 /// The pattern of the rule that decides, with its text.
-pub(crate) fn written_at(source: &Source, decider: Option<usize>) -> Option<Written<'_>> {
+pub(crate) fn written_at(source: &WrittenPolicy, decider: Option<usize>) -> Option<Written<'_>> {
     let at = decider?;
     if at >= source.rules().len() {
         return None;
@@ -59,8 +59,8 @@ fn push_over(
 /// Channels on which the two are likely to decide: those that have the values of both patterns and no other ones.
 pub(crate) fn channels_of(
     alloc: Global,
-    old: &Source,
-    new: &Source,
+    old: &WrittenPolicy,
+    new: &WrittenPolicy,
     deciders: Deciders,
 ) -> Result<Vec<Channel>, AllocError> {
     let (one, other) = (written_at(old, deciders.old), written_at(new, deciders.new));

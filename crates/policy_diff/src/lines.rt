@@ -2,14 +2,19 @@ use crate::changes::{Change, change_of};
 use crate::columns::change_cell;
 use crate::diff_rows::Row;
 use byte_strings::Text;
-use policy_tools::{Directory, Line, Source, acts_text, in_columns, streams_text};
+use policy_tools::{Directory, Line, WrittenPolicy, acts_text, in_columns, streams_text};
 use std::alloc::{AllocError, Global};
 
 /// What stands in place of an example where none was found.
 const MAY: &str = "may differ: no example found";
 
 /// The line of a row.
-fn line_of(alloc: Global, old: &Source, new: &Source, change: Change) -> Result<Line, AllocError> {
+fn line_of(
+    alloc: Global,
+    old: &WrittenPolicy,
+    new: &WrittenPolicy,
+    change: Change,
+) -> Result<Line, AllocError> {
     let mut cells = Vec::new(alloc);
     cells.push(change.principal)?;
     cells.push(acts_text(alloc, change.acts)?)?;
@@ -52,8 +57,8 @@ fn push_count(text: &mut String, shown: usize, open: usize) -> Result<(), AllocE
 /// there are.
 pub fn diff_text(
     alloc: Global,
-    old: &Source,
-    new: &Source,
+    old: &WrittenPolicy,
+    new: &WrittenPolicy,
     rows: &[Row],
     directory: &Directory,
 ) -> Result<String, AllocError> {

@@ -11,7 +11,7 @@ use crate::acts::acts_of_both;
 use crate::pairs::Deciders;
 use crate::scope::{Asker, Scope};
 use policy_core::{Acts, Principals, Rule};
-use policy_tools::Source;
+use policy_tools::WrittenPolicy;
 
 /// The greater one of two streams.
 fn greater(one: i32, other: i32) -> i32
@@ -50,7 +50,7 @@ fn narrowed_by(rule: &Rule, scope: Scope) -> Scope
 }
 
 /// What is left of it where what decides has to match it too.
-fn narrowed(source: &Source, decider: Option<usize>, scope: Scope) -> Scope
+fn narrowed(source: &WrittenPolicy, decider: Option<usize>, scope: Scope) -> Scope
     ensures { (old : Rules) (new : Rules) (question : Question) → IsIn old new scope question → position (λ rule. matches rule question) source.now.policy.rules ≡ decider → IsIn old new result question }
 {
     let rules = source.rules();
@@ -64,7 +64,7 @@ fn narrowed(source: &Source, decider: Option<usize>, scope: Scope) -> Scope
 }
 
 /// Which requests the two may decide.
-pub(crate) fn scope_of(old: &Source, new: &Source, deciders: Deciders) -> Scope
+pub(crate) fn scope_of(old: &WrittenPolicy, new: &WrittenPolicy, deciders: Deciders) -> Scope
     ensures { (question : Question) → IsStream question.stream → IsDecidedBy old.now.policy new.now.policy question deciders → IsIn old.now.policy new.now.policy result question }
 {
     let scope = Scope {

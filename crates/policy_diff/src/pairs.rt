@@ -4,7 +4,7 @@ ghost use Rattle.policy_diff.specs.Reach.{reach_of};
 
 use crate::reach::{Reach, is_upto, reaches_of};
 use policy_core::Policy;
-use policy_tools::{Source, may_meet};
+use policy_tools::{WrittenPolicy, may_meet};
 use std::alloc::{AllocError, Global};
 
 /// What decides in an old policy and what in a new one: the place of a rule, counted from 0, or `None` for the default.
@@ -33,7 +33,7 @@ fn is_within(row: Deciders, reach: Reach) -> bool
 }
 
 /// Whether some request may match the two rules of a row; the default may meet each.
-fn meet(old: &Source, new: &Source, row: Deciders) -> bool
+fn meet(old: &WrittenPolicy, new: &WrittenPolicy, row: Deciders) -> bool
     requires old_decider { IsDecider old.now.policy row.old }
     requires new_decider { IsDecider new.now.policy row.new }
     ensures { result ≡ meet old.now.policy new.now.policy row }
@@ -48,7 +48,13 @@ fn meet(old: &Source, new: &Source, row: Deciders) -> bool
 }
 
 /// Whether it is a row, where the reaches of its two are known.
-fn is_pair(old: &Source, new: &Source, row: Deciders, one: Reach, other: Reach) -> bool
+fn is_pair(
+    old: &WrittenPolicy,
+    new: &WrittenPolicy,
+    row: Deciders,
+    one: Reach,
+    other: Reach,
+) -> bool
     requires old_decider { IsDecider old.now.policy row.old }
     requires new_decider { IsDecider new.now.policy row.new }
     requires old_reach { one ≡ reach_from old.now.policy new.now.policy (rule_of old.now.policy row.old) }
@@ -63,8 +69,8 @@ fn is_pair(old: &Source, new: &Source, row: Deciders, one: Reach, other: Reach) 
 
 /// Adds a row, if it is one.
 fn push_row(
-    old: &Source,
-    new: &Source,
+    old: &WrittenPolicy,
+    new: &WrittenPolicy,
     row: Deciders,
     reaches: (Reach, Reach),
     rows: &mut Vec<Deciders>,
@@ -83,8 +89,8 @@ fn push_row(
 
 /// Adds the rows of what decides in the old policy.
 fn push_rows(
-    old: &Source,
-    new: &Source,
+    old: &WrittenPolicy,
+    new: &WrittenPolicy,
     decider: Option<usize>,
     reach: Reach,
     reaches: &[Reach],
@@ -111,8 +117,8 @@ fn push_rows(
 
 /// Adds the rows of each rule of the old policy, and of its default.
 fn push_all(
-    old: &Source,
-    new: &Source,
+    old: &WrittenPolicy,
+    new: &WrittenPolicy,
     old_reaches: &[Reach],
     new_reaches: &[Reach],
     rows: &mut Vec<Deciders>,
@@ -132,8 +138,8 @@ fn push_all(
 /// default is the last one.
 pub(crate) fn pairs_of(
     alloc: Global,
-    old: &Source,
-    new: &Source,
+    old: &WrittenPolicy,
+    new: &WrittenPolicy,
 ) -> Result<Vec<Deciders>, AllocError>
     ensures { IfOk result (λ pairs. pairs.items ≡ all_pairs old.now.policy new.now.policy) }
 {

@@ -5,7 +5,7 @@ ghost use Rattle.policy_tools.specs.Sharing.{is_over};
 ghost use Rattle.std.specs.Prelude.{◌≡◌, ◌<◌, IfOk, length, map, slice_index_or};
 
 use policy_core::Rule;
-use policy_tools::{Source, is_over};
+use policy_tools::{WrittenPolicy, is_over};
 use std::alloc::{AllocError, Global};
 
 /// The first rule of each policy that is over a rule: it, or one before it, decides each request of that rule. The places
@@ -25,7 +25,7 @@ impl Reach {
 }
 
 /// Whether the rule at a place is over that one.
-fn is_over_at(source: &Source, at: usize, rule: &Rule) -> bool
+fn is_over_at(source: &WrittenPolicy, at: usize, rule: &Rule) -> bool
     requires { at < length source.now.policy.rules }
     ensures { result ≡ is_over (slice_index_or source.now.policy.rules at rule.now) rule.now }
 {
@@ -34,7 +34,7 @@ fn is_over_at(source: &Source, at: usize, rule: &Rule) -> bool
 }
 
 /// The place of the first rule that is over that one.
-fn first_over(source: &Source, rule: &Rule) -> Option<usize>
+fn first_over(source: &WrittenPolicy, rule: &Rule) -> Option<usize>
     ensures { result ≡ first_over source.now.policy.rules rule.now }
 {
     for at in 0..source.rules().len() {
@@ -46,7 +46,7 @@ fn first_over(source: &Source, rule: &Rule) -> Option<usize>
 }
 
 /// The first rule of each policy that is over that one.
-fn reach_of(old: &Source, new: &Source, rule: &Rule) -> Reach
+fn reach_of(old: &WrittenPolicy, new: &WrittenPolicy, rule: &Rule) -> Reach
     ensures { result ≡ reach_of old.now.policy new.now.policy rule.now }
 {
     Reach {
@@ -58,8 +58,8 @@ fn reach_of(old: &Source, new: &Source, rule: &Rule) -> Reach
 /// The same of each of these rules.
 pub(crate) fn reaches_of(
     alloc: Global,
-    old: &Source,
-    new: &Source,
+    old: &WrittenPolicy,
+    new: &WrittenPolicy,
     rules: &[Rule],
 ) -> Result<Vec<Reach>, AllocError>
     ensures { IfOk result (λ reaches. reaches.items ≡ map (reach_of old.now.policy new.now.policy) rules.now) }

@@ -13,7 +13,7 @@ use crate::pairs::Deciders;
 use crate::scope::{Asker, Scope, may_reach, reaches_each};
 use channel_uri::Channel;
 use policy_core::{Act, Policy, Rule};
-use policy_tools::Source;
+use policy_tools::WrittenPolicy;
 
 /// Whether some request of the scope on that channel may match the rule.
 fn may_match(rule: &Rule, scope: &Scope, channel: &Channel) -> bool

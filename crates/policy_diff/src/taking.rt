@@ -9,7 +9,7 @@ use crate::pairs::Deciders;
 use crate::scope::{Scope, reaches_each};
 use channel_uri::Pattern;
 use policy_core::Rule;
-use policy_tools::{Source, is_wider};
+use policy_tools::{WrittenPolicy, is_wider};
 
 /// Whether the pattern is `*`.
 fn is_any(pattern: &Pattern) -> bool
@@ -22,7 +22,7 @@ fn is_any(pattern: &Pattern) -> bool
 }
 
 /// Whether the pattern, which has that text, is found to cover each channel that the pattern of what decides covers.
-fn covers_all_of(text: &str, wide: &Pattern, source: &Source, decider: Option<usize>) -> bool
+fn covers_all_of(text: &str, wide: &Pattern, source: &WrittenPolicy, decider: Option<usize>) -> bool
     requires { pattern_of text.now ≡ Ok wide.now }
     ensures { result ≡ true → (channel : Shape) → IsCovered source.now.policy decider channel → covers wide.now channel ≡ true }
 {
@@ -37,8 +37,8 @@ fn covers_all_of(text: &str, wide: &Pattern, source: &Source, decider: Option<us
 fn takes(
     text: &str,
     rule: &Rule,
-    old: &Source,
-    new: &Source,
+    old: &WrittenPolicy,
+    new: &WrittenPolicy,
     deciders: Deciders,
     scope: &Scope,
 ) -> bool
@@ -62,11 +62,11 @@ fn is_before(at: usize, decider: Option<usize>) -> bool
 
 /// Whether the rule at that place of a policy is before what decides in it, and takes each request of the scope.
 fn takes_at(
-    source: &Source,
+    source: &WrittenPolicy,
     at: usize,
     decider: Option<usize>,
-    old: &Source,
-    new: &Source,
+    old: &WrittenPolicy,
+    new: &WrittenPolicy,
     deciders: Deciders,
     scope: &Scope,
 ) -> bool
@@ -81,11 +81,11 @@ fn takes_at(
 
 /// Whether so it is at one of these places.
 pub(crate) fn is_taken(
-    source: &Source,
+    source: &WrittenPolicy,
     places: &[usize],
     decider: Option<usize>,
-    old: &Source,
-    new: &Source,
+    old: &WrittenPolicy,
+    new: &WrittenPolicy,
     deciders: Deciders,
     scope: &Scope,
 ) -> bool

@@ -2,7 +2,7 @@ ghost use Rattle.std.specs.Prelude.{◌<◌, length};
 
 use crate::pairs::pairs_in;
 use channel_uri::{Channel, Media, Pattern};
-use policy_tools::{Source, value_wider};
+use policy_tools::{WrittenPolicy, value_wider};
 use std::alloc::{AllocError, Global};
 
 /// What may stand after a beginning of an address so that it is one: where some address begins so, one of these does.
@@ -88,7 +88,7 @@ impl<'a> Spoken<'a> {
 }
 
 /// The rule's pattern at a place, counted from 0.
-pub(crate) fn spoken_at(source: &Source, at: usize) -> Spoken<'_>
+pub(crate) fn spoken_at(source: &WrittenPolicy, at: usize) -> Spoken<'_>
     requires { at < length source.now.policy.rules }
 {
     Spoken {

@@ -6,7 +6,7 @@ use crate::warning::Gap;
 use byte_strings::Text;
 use channel_uri::{Channel, Media};
 use policy_core::{Act, Verdict};
-use policy_tools::Source;
+use policy_tools::WrittenPolicy;
 use std::alloc::{AllocError, Global};
 
 /// Acts that serve only with another one.
@@ -96,7 +96,7 @@ fn tried(alloc: Global, own: Spoken<'_>, among: Among) -> Result<Option<Channel>
 /// principal.
 fn gaps_on(
     alloc: Global,
-    source: &Source,
+    source: &WrittenPolicy,
     at: usize,
     name: &str,
     channel: &Channel,
@@ -134,7 +134,7 @@ fn gaps_on(
 /// what the text calls its principal.
 pub(crate) fn gaps_of(
     alloc: Global,
-    source: &Source,
+    source: &WrittenPolicy,
     at: usize,
     name: &str,
     moment: u64,

@@ -11,7 +11,7 @@ ghost use Rattle.std.specs.Prelude.{◌≡◌, ◌+◌, ◌<◌, ◌≤ℤ◌, �
 
 use crate::lasting::outlasts;
 use policy_core::{Act, Principals, Rule};
-use policy_tools::{Source, is_wider};
+use policy_tools::{WrittenPolicy, is_wider};
 use std::alloc::{AllocError, Global};
 
 /// A rule that never decides, with rules before it that take each request from it.
@@ -46,7 +46,7 @@ fn hides(text: &str, wide: &Rule, narrow: &Rule) -> bool
 }
 
 /// Whether the rule at a place hides that one by itself.
-fn hides_at(source: &Source, place: usize, narrow: &Rule) -> bool
+fn hides_at(source: &WrittenPolicy, place: usize, narrow: &Rule) -> bool
     requires { place < length source.now.policy.rules }
     ensures { result ≡ hides (slice_index_or source.now.policy.rules place narrow.now) narrow.now }
 {
@@ -55,7 +55,7 @@ fn hides_at(source: &Source, place: usize, narrow: &Rule) -> bool
 }
 
 /// The first rule before `at` that hides the one there by itself.
-fn first_hider(source: &Source, at: usize) -> Option<usize>
+fn first_hider(source: &WrittenPolicy, at: usize) -> Option<usize>
     requires { at < length source.now.policy.rules }
     ensures some { IfSome result (λ place. IsHider source.now.policy.rules place at) }
     ensures none { IfNone result ((place : ℕ) → IsHider source.now.policy.rules place at → ⊥) }
@@ -71,7 +71,7 @@ fn first_hider(source: &Source, at: usize) -> Option<usize>
 
 /// Whether the rule at `place` is found to be over the one at `at`: acts and streams apart, it stands whenever that one does
 /// and matches what that one matches.
-fn is_over(source: &Source, place: usize, at: usize) -> bool
+fn is_over(source: &WrittenPolicy, place: usize, at: usize) -> bool
     requires place_within { place < length source.now.policy.rules }
     requires at_within { at < length source.now.policy.rules }
     ensures { result ≡ true → IsOverAt source.now.policy.rules place at }
@@ -84,7 +84,7 @@ fn is_over(source: &Source, place: usize, at: usize) -> bool
 }
 
 /// Whether `place` is before `at`, with a rule that is found to be over the one there.
-fn is_over_before(source: &Source, place: usize, at: usize) -> bool
+fn is_over_before(source: &WrittenPolicy, place: usize, at: usize) -> bool
     requires { at < length source.now.policy.rules }
     ensures before { result ≡ true → place < at }
     ensures over { result ≡ true → IsOverAt source.now.policy.rules place at }
@@ -96,7 +96,7 @@ fn is_over_before(source: &Source, place: usize, at: usize) -> bool
 }
 
 /// Whether it is so of each of these places.
-fn are_over(source: &Source, places: &[usize], at: usize) -> bool
+fn are_over(source: &WrittenPolicy, places: &[usize], at: usize) -> bool
     requires { at < length source.now.policy.rules }
     ensures { result ≡ true → AreOver source.now.policy.rules places.now at }
 {
@@ -175,7 +175,7 @@ fn acts_are_held(rules: &[Rule], places: &[usize], at: usize) -> bool
 
 /// Whether the rules at these places are found to hide the rule at `at`: each is before it, speaks of everybody and of each
 /// channel of whom it speaks, and for each of its acts and streams one of them has both.
-fn hide(source: &Source, places: &[usize], at: usize) -> bool
+fn hide(source: &WrittenPolicy, places: &[usize], at: usize) -> bool
     requires { at < length source.now.policy.rules }
     ensures { result ≡ true → IsHiddenBy source.now.policy.rules at places.now }
 {
@@ -196,7 +196,7 @@ fn by_low(alloc: Global, rules: &[Rule]) -> Result<Vec<(i32, usize)>, AllocError
 }
 
 /// Whether the rule at `place` may have a part in hiding the one at `at`.
-fn may_hide(source: &Source, place: usize, at: usize) -> bool
+fn may_hide(source: &WrittenPolicy, place: usize, at: usize) -> bool
     requires { at < length source.now.policy.rules }
 {
     let narrow = &source.rules()[at];
@@ -211,7 +211,7 @@ fn may_hide(source: &Source, place: usize, at: usize) -> bool
 /// The places of the rules before `at` that are over the one there, in the same order.
 fn candidates(
     alloc: Global,
-    source: &Source,
+    source: &WrittenPolicy,
     order: &[(i32, usize)],
     at: usize,
 ) -> Result<Vec<usize>, AllocError>
@@ -269,7 +269,7 @@ fn needed(
 /// The places of rules that are likely to hide the one at `at` together; none where none are found.
 fn hiders(
     alloc: Global,
-    source: &Source,
+    source: &WrittenPolicy,
     order: &[(i32, usize)],
     at: usize,
 ) -> Result<Vec<usize>, AllocError>
@@ -285,7 +285,7 @@ fn hiders(
 /// What is found of the rule at `at` where several rules hide it together.
 fn hidden_together(
     alloc: Global,
-    source: &Source,
+    source: &WrittenPolicy,
     order: &[(i32, usize)],
     at: usize,
 ) -> Result<Option<Hidden>, AllocError>
@@ -313,7 +313,7 @@ fn hidden_by(alloc: Global, place: usize, at: usize) -> Result<Hidden, AllocErro
 /// What is found of the rule at `at`: it is found to be hidden at least where one rule hides it by itself.
 fn hidden_at(
     alloc: Global,
-    source: &Source,
+    source: &WrittenPolicy,
     order: &[(i32, usize)],
     at: usize,
 ) -> Result<Option<Hidden>, AllocError>
@@ -334,7 +334,7 @@ fn hidden_at(
 /// Takes the rule at `at`, where it is found to be hidden.
 fn put_hidden(
     alloc: Global,
-    source: &Source,
+    source: &WrittenPolicy,
     order: &[(i32, usize)],
     at: usize,
     found: &mut Vec<Hidden>,
@@ -351,7 +351,7 @@ fn put_hidden(
 }
 
 /// The rules that never decide, as far as they are found, in their order: at least those that one rule hides by itself.
-pub fn hidden_in(alloc: Global, source: &Source) -> Result<Vec<Hidden>, AllocError>
+pub fn hidden_in(alloc: Global, source: &WrittenPolicy) -> Result<Vec<Hidden>, AllocError>
     ensures sound { IfOk result (λ found. All (λ hidden. IsHiddenBy source.now.policy.rules hidden.at hidden.by.items) found.items) }
     ensures found { IfOk result (λ found. (at : ℕ) (place : ℕ) → IsHider source.now.policy.rules place at → Contains (map (λ hidden. hidden.at) found.items) at) }
 {

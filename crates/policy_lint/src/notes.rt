@@ -7,7 +7,7 @@ use crate::warning::{Doubt, Warning};
 use byte_strings::Text;
 use moment_words::date_text;
 use policy_faults::{Place, Places};
-use policy_tools::Source;
+use policy_tools::WrittenPolicy;
 use std::alloc::{AllocError, Global};
 
 /// What a rule is called, and where it stands.
@@ -35,7 +35,7 @@ pub struct Note {
 /// What the rules are called, and where they stand.
 pub(crate) fn rules_of(
     alloc: Global,
-    source: &Source,
+    source: &WrittenPolicy,
     places: &Places,
 ) -> Result<Vec<Named>, AllocError> {
     let mut rules = Vec::new(alloc);

@@ -18,7 +18,7 @@ use byte_strings::Text;
 use policy_faults::{Fault, faults_of, places_in};
 use policy_query::Document;
 use policy_text::PolicyFault;
-use policy_tools::{Directory, Source};
+use policy_tools::{Directory, WrittenPolicy};
 use std::alloc::{AllocError, Global};
 
 /// What is found in a policy's text.
@@ -44,7 +44,7 @@ pub struct Report {
 /// The rules that end within a period from a moment, if one is given.
 fn ending_in(
     alloc: Global,
-    source: &Source,
+    source: &WrittenPolicy,
     moment: u64,
     soon: Option<u64>,
 ) -> Result<Vec<Ended>, AllocError>
@@ -58,7 +58,7 @@ fn ending_in(
 }
 
 /// The rules that are over at a moment.
-fn over_in(alloc: Global, source: &Source, moment: u64) -> Result<Vec<Ended>, AllocError>
+fn over_in(alloc: Global, source: &WrittenPolicy, moment: u64) -> Result<Vec<Ended>, AllocError>
     ensures exact { IfOk result (λ found. found.items ≡ ended_from 0 (is_among (Past moment)) source.now.policy.rules) }
     ensures gone { IfOk result (λ found. All (λ ended. IsGone source.now.policy.rules moment ended.at) found.items) }
 {
@@ -68,7 +68,7 @@ fn over_in(alloc: Global, source: &Source, moment: u64) -> Result<Vec<Ended>, Al
 /// What is found in the text of a policy.
 fn warned(
     alloc: Global,
-    source: &Source,
+    source: &WrittenPolicy,
     text: &str,
     moment: u64,
     soon: Option<u64>,
@@ -126,7 +126,7 @@ pub fn lint(
     ensures accepted { (policy : Rules) → policy_in directory.now document.now ≡ Ok policy → IfOk result (λ report. IsOf policy moment soon report) }
     ensures refused { (fault : PolicyFault) → policy_in directory.now document.now ≡ Err fault → IfOk result (λ report. IsFirst fault report.faults.items) }
 {
-    match Source::read(alloc, document, directory.names()) {
+    match WrittenPolicy::read(alloc, document, directory.names()) {
         Ok(source) => warned(alloc, &source, document.text(), moment, soon),
         Err(PolicyFault::NoMemory) => Err(AllocError),
         Err(fault) => refused(alloc, document, directory, fault),

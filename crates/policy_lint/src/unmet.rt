@@ -10,7 +10,7 @@ use byte_strings::Text;
 use channel_uri::{Channel, Media};
 use policy_core::{Act, Acts, Policy, Rule};
 use policy_faults::{Place, Places};
-use policy_tools::Source;
+use policy_tools::WrittenPolicy;
 use std::alloc::{AllocError, Global};
 use std::fmt;
 
@@ -108,7 +108,7 @@ fn is_there(lack: Lack, channel: &Channel) -> bool
 /// One end, as a rule grants it.
 #[derive(Clone, Copy)]
 struct End<'a> {
-    source: &'a Source,
+    source: &'a WrittenPolicy,
     /// The place of the rule, counted from 0.
     at: usize,
     /// What is looked for.
@@ -272,7 +272,7 @@ impl End<'_> {
 /// its principal.
 fn unmet_at(
     alloc: Global,
-    source: &Source,
+    source: &WrittenPolicy,
     lack: Lack,
     at: usize,
     name: &str,
@@ -308,7 +308,7 @@ fn unmet_at(
 /// Takes what is found of a rule.
 fn put_unmet(
     alloc: Global,
-    source: &Source,
+    source: &WrittenPolicy,
     lack: Lack,
     at: usize,
     name: &str,
@@ -329,7 +329,7 @@ fn put_unmet(
 /// What is found of the rules of a policy at a moment, in their order.
 pub(crate) fn unmet_in(
     alloc: Global,
-    source: &Source,
+    source: &WrittenPolicy,
     places: &Places,
     moment: u64,
 ) -> Result<Vec<Unmet>, AllocError>

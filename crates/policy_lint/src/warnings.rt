@@ -9,7 +9,7 @@ use crate::warning::{Doubt, Warning};
 use channel_uri::{Keys, Media, Pattern};
 use policy_core::{Act, Principals, Rule};
 use policy_faults::Places;
-use policy_tools::{Source, may_meet};
+use policy_tools::{WrittenPolicy, may_meet};
 use std::alloc::{AllocError, Global};
 
 /// The warnings about the rules of a policy, as they are found.
@@ -124,7 +124,7 @@ impl Warned {
     fn rule(
         &mut self,
         alloc: Global,
-        source: &Source,
+        source: &WrittenPolicy,
         looked: Looked<'_>,
         principal: &str,
     ) -> Result<(), AllocError>
@@ -142,7 +142,7 @@ impl Warned {
     }
 
     /// Looks whether the rule changes nothing.
-    fn effect(&mut self, source: &Source, looked: Looked<'_>) -> Result<(), AllocError>
+    fn effect(&mut self, source: &WrittenPolicy, looked: Looked<'_>) -> Result<(), AllocError>
         requires { looked.at < length source.now.policy.rules }
     {
         if changes_nothing(source, looked.at) {
@@ -153,7 +153,7 @@ impl Warned {
     }
 
     /// Looks for an earlier rule of the same name, and whether the rule allows everybody everything.
-    fn whole(&mut self, source: &Source, looked: Looked<'_>) -> Result<(), AllocError>
+    fn whole(&mut self, source: &WrittenPolicy, looked: Looked<'_>) -> Result<(), AllocError>
         requires { looked.at < length source.now.policy.rules }
     {
         let mut earlier = source.rules().iter().take(looked.at);
@@ -185,7 +185,7 @@ fn is_everything(rule: &Rule) -> bool {
 
 /// Whether the policy decides all requests with the same words without the rule at a place: the default has its word, and so has
 /// each later rule that may match a request of it.
-fn changes_nothing(source: &Source, at: usize) -> bool
+fn changes_nothing(source: &WrittenPolicy, at: usize) -> bool
     requires { at < length source.now.policy.rules }
 {
     let rule = &source.rules()[at];
@@ -203,7 +203,7 @@ fn changes_nothing(source: &Source, at: usize) -> bool
 /// The warnings about the rules of a policy at a moment, but for those about hidden rules, and about rules that end.
 pub(crate) fn warnings_of(
     alloc: Global,
-    source: &Source,
+    source: &WrittenPolicy,
     hidden: &[Hidden],
     places: Places,
     moment: u64,

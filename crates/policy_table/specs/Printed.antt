@@ -10,7 +10,7 @@ use Rattle.policy_table.specs.declared.steps.Place.{Place}
 use Rattle.policy_table.specs.declared.steps.Step.{Step}
 use Rattle.policy_table.specs.declared.table.Page.{Page}
 use Rattle.policy_table.specs.declared.table.Table.{Table}
-use Rattle.policy_tools.specs.Source.{Sourced}
+use Rattle.policy_tools.specs.WrittenPolicy.{Sourced}
 
 -- it has these groups, and their rows are counted
 pub record IsCounted (own : Sourced) (shared : List Group) (table : Table) : Type 0 where

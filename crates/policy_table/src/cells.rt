@@ -5,7 +5,9 @@ use crate::steps::Step;
 use byte_strings::Text;
 use channel_uri::{Media, Pattern};
 use policy_core::Principals;
-use policy_tools::{Directory, Source, acts_text, plain, principals_text, streams_text, word_of};
+use policy_tools::{
+    Directory, WrittenPolicy, acts_text, plain, principals_text, streams_text, word_of,
+};
 use std::alloc::{AllocError, Global};
 
 /// The name of an asker.
@@ -52,7 +54,7 @@ impl RuleCells {
 /// The cells of the rule at a place, if there is one.
 pub(crate) fn rule_cells(
     alloc: Global,
-    source: &Source,
+    source: &WrittenPolicy,
     place: usize,
 ) -> Result<Option<RuleCells>, AllocError> {
     let rules = source.rules();
@@ -134,7 +136,7 @@ impl Widths {
     pub(crate) fn with(
         self,
         alloc: Global,
-        source: &Source,
+        source: &WrittenPolicy,
         step: &Step,
         directory: &Directory,
     ) -> Result<Widths, AllocError> {

@@ -10,7 +10,7 @@ use crate::steps::{Place, Step, step_at};
 use crate::table::Table;
 use byte_strings::Text;
 use policy_core::Acts;
-use policy_tools::{Directory, Source};
+use policy_tools::{Directory, WrittenPolicy};
 use std::alloc::{AllocError, Global};
 
 /// Requests of an asker, and a rule that decides those of them whose channel its pattern covers, where that of no row above does
@@ -40,7 +40,7 @@ pub struct TableRow {
 /// The row of the rule at a place.
 fn table_row(
     alloc: Global,
-    source: &Source,
+    source: &WrittenPolicy,
     step: &Step,
     place: usize,
     directory: &Directory,
@@ -72,7 +72,7 @@ fn table_row(
 /// Adds the rows of a part.
 fn push_rows(
     alloc: Global,
-    source: &Source,
+    source: &WrittenPolicy,
     step: &Step,
     directory: &Directory,
     rows: &mut Vec<TableRow>,

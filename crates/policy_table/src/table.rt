@@ -14,7 +14,7 @@ use crate::scope::Asker;
 use crate::steps::{Place, Step, step_at};
 use byte_strings::Text;
 use policy_core::Rule;
-use policy_tools::{Directory, Source};
+use policy_tools::{Directory, WrittenPolicy};
 use std::alloc::{AllocError, Global};
 
 /// So many bytes fill a page.
@@ -26,7 +26,7 @@ pub const MOST_ROWS: u64 = 1_000_000;
 /// Who may do what under a policy: rows that are made as they are printed, so that their number takes no memory.
 #[derive(Debug, Drop)]
 pub struct Table {
-    pub(crate) source: Source,
+    pub(crate) source: WrittenPolicy,
     pub(crate) groups: Vec<Group>,
     widths: Widths,
     rows: u64,
@@ -63,7 +63,7 @@ struct Measure {
 /// Measures the rows of groups.
 fn measured(
     alloc: Global,
-    source: &Source,
+    source: &WrittenPolicy,
     groups: &[Group],
     directory: &Directory,
 ) -> Result<Measure, AllocError>
@@ -102,7 +102,7 @@ fn groups_of_all(alloc: Global, rules: &[Rule]) -> Result<Vec<Group>, AllocError
 /// Adds the line of the rule at a place.
 fn push_line(
     alloc: Global,
-    source: &Source,
+    source: &WrittenPolicy,
     cells: &PartCells,
     place: usize,
     widths: &Widths,
@@ -128,7 +128,7 @@ fn push_numbered(text: &mut String, front: &str, place: usize) -> Result<(), All
 /// Adds the lines of a part.
 fn push_lines(
     alloc: Global,
-    source: &Source,
+    source: &WrittenPolicy,
     step: &Step,
     directory: &Directory,
     widths: &Widths,
@@ -147,7 +147,7 @@ impl Table {
     /// A table of these groups.
     fn of(
         alloc: Global,
-        source: Source,
+        source: WrittenPolicy,
         groups: Vec<Group>,
         directory: &Directory,
     ) -> Result<Table, AllocError>
@@ -163,7 +163,11 @@ impl Table {
     }
 
     /// Who may do what: the principals that a rule names, and at last all others.
-    pub fn of_all(alloc: Global, source: Source, directory: &Directory) -> Result<Table, AllocError>
+    pub fn of_all(
+        alloc: Global,
+        source: WrittenPolicy,
+        directory: &Directory,
+    ) -> Result<Table, AllocError>
         ensures { IfOk result (λ table. IsWhole source table) }
     {
         let groups = groups_of_all(alloc, source.rules())?;
@@ -174,7 +178,7 @@ impl Table {
     /// What one principal may do.
     pub fn of_one(
         alloc: Global,
-        source: Source,
+        source: WrittenPolicy,
         directory: &Directory,
         principal: u32,
     ) -> Result<Table, AllocError>

@@ -5,5 +5,5 @@ pub mod KeyLemmas
 pub mod PatternLemmas
 mod SettledLemmas
 pub mod SharingLemmas
-pub mod SourceLemmas
 pub mod WiderLemmas
+pub mod WrittenPolicyLemmas

@@ -5,8 +5,8 @@ use Rattle.channel_uri.specs.declared.pattern.Pattern.{Pattern}
 use Rattle.policy_core.specs.Moments.{as_of, at}
 use Rattle.policy_core.specs.RuleList.{Rules}
 use Rattle.policy_core.specs.declared.rule.Rule.{Rule}
-use Rattle.policy_tools.specs.declared.source.Words.{Words}
-use Rattle.policy_tools.specs.Source.{AreWords}
+use Rattle.policy_tools.specs.declared.written_policy.Words.{Words}
+use Rattle.policy_tools.specs.WrittenPolicy.{AreWords}
 
 patterns : List Rule → List (Result Pattern UriError)
 patterns rules = map (λ rule. Ok rule.channel) rules

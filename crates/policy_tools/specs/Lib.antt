@@ -9,5 +9,5 @@ pub mod Nearness
 pub mod Patterns
 pub mod Sharing
 pub mod Showing
-pub mod Source
 pub mod Wider
+pub mod WrittenPolicy

@@ -18,9 +18,9 @@ mod patterns;
 mod reasons;
 mod sharing;
 mod showing;
-mod source;
 mod wider;
 mod words;
+mod written_policy;
 
 pub use case_faults::{CaseCause, CasePlace};
 pub use case_lines::{CasesFault, cases_in};
@@ -33,6 +33,6 @@ pub use patterns::{Relation, is_wider, patterns_pass};
 pub use reasons::{Reason, explained, name_at, reasons_of};
 pub use sharing::{is_over, may_meet};
 pub use showing::show;
-pub use source::Source;
 pub use wider::{first_piece, key_of, pairs_in, value_wider};
 pub use words::{acts_text, moments_text, plain, principals_text, streams_text, word_of};
+pub use written_policy::WrittenPolicy;

@@ -3,8 +3,8 @@
 ghost use Rattle.std.specs.Prelude.{◌<◌, length};
 
 use crate::explaining::{ChannelMiss, Explanation, Miss, channel_miss};
-use crate::source::Source;
 use crate::words::plain;
+use crate::written_policy::WrittenPolicy;
 use byte_strings::Text;
 use channel_uri::Channel;
 use policy_core::{Act, Rule};
@@ -45,7 +45,7 @@ fn stands(rule: &Rule) -> bool {
 fn part_of(
     alloc: Global,
     at: usize,
-    source: &Source,
+    source: &WrittenPolicy,
     miss: Miss,
     channel: &Channel,
 ) -> Result<Text, AllocError>
@@ -64,7 +64,7 @@ fn part_of(
 /// given.
 pub fn reasons_of(
     alloc: Global,
-    source: &Source,
+    source: &WrittenPolicy,
     channel: &Channel,
     found: &Explanation,
     places: Option<&[usize]>,
@@ -113,7 +113,7 @@ pub fn name_at(rules: &[Rule], at: usize) -> &str {
 /// An explanation as a text: the verdict, the rule that decides, and why others do not match.
 pub fn explained(
     alloc: Global,
-    source: &Source,
+    source: &WrittenPolicy,
     found: &Explanation,
     reasons: &[Reason],
 ) -> Result<String, AllocError> {

@@ -6,8 +6,8 @@ ghost use Rattle.std.specs.Prelude.{◌≡◌, ◌<◌, ◌∷◌, [], IfOk, len
 
 use crate::columns::{Line, in_columns};
 use crate::directory::Directory;
-use crate::source::Source;
 use crate::words::{acts_text, moments_text, plain, principals_text, streams_text, word_of};
+use crate::written_policy::WrittenPolicy;
 use byte_strings::Text;
 use policy_core::Rule;
 use std::alloc::{AllocError, Global};
@@ -60,7 +60,7 @@ fn are_timed(rules: &[Rule]) -> bool {
 /// The lines of the rules, each rule once, in their order.
 fn rule_lines(
     alloc: Global,
-    source: &Source,
+    source: &WrittenPolicy,
     directory: &Directory,
 ) -> Result<Vec<Line>, AllocError>
     ensures { IfOk result (λ lines. heads lines.items ≡ numbered 1 source.now.policy.rules) }
@@ -83,7 +83,11 @@ fn rule_lines(
 
 /// The policy as a text: a line for each rule with its number, name, principal, acts, pattern, streams and word; then the
 /// default. Where a rule has bounds of the moments at which it stands, each line has them after the streams.
-pub fn show(alloc: Global, source: &Source, directory: &Directory) -> Result<String, AllocError> {
+pub fn show(
+    alloc: Global,
+    source: &WrittenPolicy,
+    directory: &Directory,
+) -> Result<String, AllocError> {
     let lines = rule_lines(alloc, source, directory)?;
     let mut text = in_columns(alloc, lines.as_slice())?;
     text.push_str("default ")?;

@@ -6,7 +6,7 @@ use Rattle.std.proofs.lemmas.List.{length-append}
 use Rattle.std.proofs.lemmas.List.Filters.{length-filter_both}
 use Rattle.stream_registry.specs.declared.fault.StreamFault.{StreamFault}
 use Rattle.stream_registry.specs.declared.fault.StreamFault.TheVariants.{Conflict, Full}
-use Rattle.stream_registry.specs.declared.row.Source.{Source}
+use Rattle.stream_registry.specs.declared.row.LogRow.{LogRow}
 use Rattle.stream_registry.specs.declared.wanted.Adding.{Adding}
 use Rattle.stream_registry.specs.declared.wanted.Adding.TheVariants.{Join, Make}
 use Rattle.stream_registry.specs.declared.wanted.ImageWanted.{ImageWanted}
@@ -37,7 +37,7 @@ chosen true room granted adding is = absurd (cc)
 chosen false true granted adding is = (refl, cc)
 chosen false false granted adding is = absurd (cc)
 
-joining_room : (s : Streams) (channel : Shape) (log : Source) (adding : Adding) → joining_of s channel log ≡ Ok adding → HasRoom s adding
+joining_room : (s : Streams) (channel : Shape) (log : LogRow) (adding : Adding) → joining_of s channel log ≡ Ok adding → HasRoom s adding
 unfolding joining_of
 joining_room s channel log adding is =
     let both = chosen (contradicts s.defaults channel log) (has_room_for_registration s) (Join log.number log.session) adding is in
@@ -50,7 +50,7 @@ making_room s wanted adding is =
     (has_room_for_registration s && has_room_for_log s) (Make (session_of s wanted.channel)) adding is in
     subst (HasRoom s) both.1 both.0
 
-by_room : (s : Streams) (wanted : Wanted) (adding : Adding) (found : Option Source) → adding_by s wanted found ≡ Ok adding →
+by_room : (s : Streams) (wanted : Wanted) (adding : Adding) (found : Option LogRow) → adding_by s wanted found ≡ Ok adding →
     HasRoom s adding
 by_room s wanted adding None is = making_room s wanted adding is
 by_room s wanted adding (Some log) is = joining_room s wanted.channel log adding is

@@ -7,7 +7,7 @@ use Rattle.std.proofs.lemmas.List.{get_or-map, length-map}
 use Rattle.std.proofs.lemmas.List.Elements.{All-map, All-filter, All-push}
 use Rattle.std.proofs.lemmas.List.Kept.{AllPairs-filter}
 use Rattle.std.proofs.lemmas.List.Quantifiers.{all_pairs_push}
-use Rattle.stream_registry.specs.declared.row.Source.{Source}
+use Rattle.stream_registry.specs.declared.row.LogRow.{LogRow}
 use Rattle.stream_registry.specs.declared.wanted.Adding.TheVariants.{Make}
 use Rattle.stream_registry.specs.declared.row.Registration.{Registration}
 use Rattle.stream_registry.specs.declared.wanted.ImageWanted.{ImageWanted}
@@ -39,7 +39,7 @@ vacant_here s arena pages place is =
     }
 
 -- a page that two rows have in common: where the one behind begins
-meet_at : (pages place : ℕ) (log : Source) → Meets pages place (log_pages log) log.place →
+meet_at : (pages place : ℕ) (log : LogRow) → Meets pages place (log_pages log) log.place →
     ((page : ℕ) → IsAmong place pages page → ¬ HasPage log page) → ⊥
 meet_at pages place log m free = by (nat_le place log.place) refl
   where
@@ -114,7 +114,7 @@ imaged_laid_out arena s number place wanted h is =
       apart = all_pairs_push ShareNoPage s.sources log h.apart (λ k d within page has new. vacant.free k d within page new has);
     }
 
-pub kept_laid_out : (arena : ℕ) (s t : Streams) (stays : Source → Bool) → t.sources ≡ filter stays s.sources → IsLaidOut arena s →
+pub kept_laid_out : (arena : ℕ) (s t : Streams) (stays : LogRow → Bool) → t.sources ≡ filter stays s.sources → IsLaidOut arena s →
     IsLaidOut arena t
 kept_laid_out arena s t stays is h = record {
   within = subst (All (λ one. one.place + log_pages one ≤ arena)) (sym is)
@@ -123,21 +123,21 @@ kept_laid_out arena s t stays is h = record {
 }
 
 -- what only lingers keeps its pages
-record IsSame (old new : Source) : Type 0 where
+record IsSame (old new : LogRow) : Type 0 where
   place : new.place ≡ old.place
   pages : log_pages new ≡ log_pages old
 
-settled_same : (registrations : List Registration) (now : ℕ) (log : Source) → IsSame log (settled_one registrations now log)
+settled_same : (registrations : List Registration) (now : ℕ) (log : LogRow) → IsSame log (settled_one registrations now log)
 settled_same registrations now log = by (is_used registrations log.number)
   where
     by : (b : Bool) → IsSame log (cond b log (left_alone now log))
     by true = record { place = refl; pages = refl }
     by false = record { place = refl; pages = refl }
 
-same_page : (old new : Source) (page : ℕ) → IsSame old new → HasPage new page → HasPage old page
+same_page : (old new : LogRow) (page : ℕ) → IsSame old new → HasPage new page → HasPage old page
 same_page old new page same has = (omega (arith, same.place, has.0), omega (arith, same.place, same.pages, has.1))
 
-settled_apart : (registrations : List Registration) (now : ℕ) (logs : List Source) → AllPairs ShareNoPage logs →
+settled_apart : (registrations : List Registration) (now : ℕ) (logs : List LogRow) → AllPairs ShareNoPage logs →
     AllPairs ShareNoPage (map (settled_one registrations now) logs)
 settled_apart registrations now logs h i j d before within page one other =
     let f = settled_one registrations now in

@@ -4,7 +4,7 @@ use Rattle.std.specs.Prelude.{nat_lt, nat_le}
 use Rattle.std.specs.List.{list_any, range_with_len}
 use Rattle.std.proofs.lemmas.Bool.{ltb-true, ltb-false, leb-true, leb-false}
 use Rattle.std.proofs.lemmas.List.Folds.{Any-from_list_any, list_any_at}
-use Rattle.stream_registry.specs.declared.row.Source.{Source}
+use Rattle.stream_registry.specs.declared.row.LogRow.{LogRow}
 use Rattle.stream_registry.specs.LogPages.{log_pages, holds, holds_some, fits, is_below}
 
 -- ---- two rows of pages
@@ -71,7 +71,7 @@ unmet (suc pages) place held begin is m =
     (unmet pages (place + 1) held begin) is m
 
 -- a test that tells of the two rows says the same of the log
-pub tells_some : (b : Bool) (pages place : ℕ) (log : Source) → (b ≡ true → Meets pages place (log_pages log) log.place) →
+pub tells_some : (b : Bool) (pages place : ℕ) (log : LogRow) → (b ≡ true → Meets pages place (log_pages log) log.place) →
     (b ≡ false → Meets pages place (log_pages log) log.place → ⊥) → b ≡ holds_some pages place log
 unfolding holds_some
 tells_some b pages place log met_ unmet_ = by b (list_any (holds log) (range_with_len place pages)) refl refl
@@ -116,7 +116,7 @@ found_first test from (suc many) =
 
 -- ---- the ends of logs
 
-abbrev pub ending : Source → ℕ
+abbrev pub ending : LogRow → ℕ
 ending log = min (log.place + log_pages log) (2 ^ 64 - 1)
 
 -- the lesser of the two, where the end passes the test
@@ -124,7 +124,7 @@ abbrev pub tried : (ℕ → Bool) → ℕ → Option ℕ → Option ℕ
 tried test end least = cond (is_below end least && test end) (Some end) least
 
 -- the least end that passes, or what was the least before
-abbrev pub least_end : (ℕ → Bool) → List Source → Option ℕ → Option ℕ
+abbrev pub least_end : (ℕ → Bool) → List LogRow → Option ℕ → Option ℕ
 least_end test [] least = least
 least_end test (log ∷ logs) least = least_end test logs (tried test (ending log) least)
 
@@ -149,7 +149,7 @@ tried_passes : (b : Bool) (test : ℕ → Bool) (end : ℕ) (least : Option ℕ)
 tried_passes true test end least is passes = second_of (is_below end least) (test end) is
 tried_passes false test end least is passes = passes
 
-least_passes : (test : ℕ → Bool) (logs : List Source) (least : Option ℕ) → Passes test least → Passes test (least_end test logs least)
+least_passes : (test : ℕ → Bool) (logs : List LogRow) (least : Option ℕ) → Passes test least → Passes test (least_end test logs least)
 least_passes test [] least passes = passes
 least_passes test (log ∷ logs) least passes =
     least_passes test logs (tried test (ending log) least)
@@ -162,7 +162,7 @@ tried_keeps true test end n (Some least) is upto =
     let below = ltb-true end least (first_of (nat_lt end least) (test end) is) in omega (arith, below, upto)
 tried_keeps false test end n least is upto = upto
 
-least_keeps : (test : ℕ → Bool) (logs : List Source) (n : ℕ) (least : Option ℕ) → IsUpTo least n →
+least_keeps : (test : ℕ → Bool) (logs : List LogRow) (n : ℕ) (least : Option ℕ) → IsUpTo least n →
     IsUpTo (least_end test logs least) n
 least_keeps test [] n least upto = upto
 least_keeps test (log ∷ logs) n least upto =
@@ -182,7 +182,7 @@ tried_reaches : (test : ℕ → Bool) (end : ℕ) (least : Option ℕ) → test 
 tried_reaches test end None passes = reached_first (test end) end passes
 tried_reaches test end (Some least) passes = reached (nat_lt end least) (test end) end least refl passes
 
-least_reaches : (test : ℕ → Bool) (logs : List Source) (k : ℕ) (d : Source) (least : Option ℕ) → k < length logs →
+least_reaches : (test : ℕ → Bool) (logs : List LogRow) (k : ℕ) (d : LogRow) (least : Option ℕ) → k < length logs →
     test (ending (get_or logs k d)) ≡ true → IsUpTo (least_end test logs least) (ending (get_or logs k d))
 least_reaches test [] k d least within passes = absurd (omega (arith, within))
 least_reaches test (log ∷ logs) zero d least within passes =
@@ -192,7 +192,7 @@ least_reaches test (log ∷ logs) (suc k) d least within passes =
 
 -- ---- the least place
 
-pub within_and_free : (logs : List Source) (arena pages place : ℕ) → fits logs arena pages place ≡ true →
+pub within_and_free : (logs : List LogRow) (arena pages place : ℕ) → fits logs arena pages place ≡ true →
     (place + pages ≤ arena) × (list_any (holds_some pages place) logs ≡ false)
 within_and_free logs arena pages place is = by (nat_le (place + pages) arena) (list_any (holds_some pages place) logs) refl refl is
   where
@@ -202,7 +202,7 @@ within_and_free logs arena pages place is = by (nat_le (place + pages) arena) (l
     by true true low free is = absurd (cc)
     by false b low free is = absurd (cc)
 
-pub held_within : (logs : List Source) (arena pages place : ℕ) → fits logs arena pages place ≡ false → place + pages ≤ arena →
+pub held_within : (logs : List LogRow) (arena pages place : ℕ) → fits logs arena pages place ≡ false → place + pages ≤ arena →
     list_any (holds_some pages place) logs ≡ true
 held_within logs arena pages place is within = by (nat_le (place + pages) arena) (list_any (holds_some pages place) logs) refl refl is
   where
@@ -225,7 +225,7 @@ ends_there pages place held begin m n = by (nat_lt (suc place) (begin + held)) r
 pub differs : {X : Type 0} (b : Bool) → b ≡ true → b ≡ false → X
 differs b is is_not = absurd (let e : true ≡ false = sym is ∙ is_not in cc)
 
-pub none_held : (logs : List Source) (pages place k : ℕ) (d : Source) → k < length logs →
+pub none_held : (logs : List LogRow) (pages place k : ℕ) (d : LogRow) → k < length logs →
     list_any (holds_some pages place) logs ≡ false → Meets pages place (log_pages (get_or logs k d)) (get_or logs k d).place → ⊥
 unfolding holds_some
 none_held logs pages place k d within none m = by (list_any (holds (get_or logs k d)) (range_with_len place pages)) refl
@@ -236,13 +236,13 @@ none_held logs pages place k d within none m = by (list_any (holds (get_or logs 
         differs (list_any (holds_some pages place) logs) (list_any_at (holds_some pages place) logs k d within is) none
 
 -- one of the logs, at its place in the list
-pub record IsHolder (logs : List Source) (pages place : ℕ) : Type 0 where
+pub record IsHolder (logs : List LogRow) (pages place : ℕ) : Type 0 where
   pub at : ℕ
-  pub log : Source
+  pub log : LogRow
   pub within : at < length logs
   pub meets : Meets pages place (log_pages (get_or logs at log)) (get_or logs at log).place
 
-pub some_held : (logs : List Source) (pages place : ℕ) → list_any (holds_some pages place) logs ≡ true → IsHolder logs pages place
+pub some_held : (logs : List LogRow) (pages place : ℕ) → list_any (holds_some pages place) logs ≡ true → IsHolder logs pages place
 unfolding holds_some
 some_held logs pages place held =
     let any = Any-from_list_any (holds_some pages place) logs held in
@@ -250,7 +250,7 @@ some_held logs pages place held =
     let is : holds_some pages place log ≡ true = ap (holds_some pages place) any.3 ∙ any.4 in
     record { at = any.0; log = any.1; within = any.2; meets = met pages place (log_pages log) log.place is }
 
-end_reached : (logs : List Source) (arena pages place : ℕ) (least : Option ℕ) → arena < 2 ^ 32 →
+end_reached : (logs : List LogRow) (arena pages place : ℕ) (least : Option ℕ) → arena < 2 ^ 32 →
     fits logs arena pages place ≡ false → fits logs arena pages (suc place) ≡ true →
     IsUpTo (least_end (fits logs arena pages) logs least) (suc place)
 end_reached logs arena pages place least small before here =
@@ -266,10 +266,10 @@ end_reached logs arena pages place least small before here =
     (least_reaches (fits logs arena pages) logs holder.at holder.log least holder.within passes)
 
 -- what passes is within the arena
-passes_within : (logs : List Source) (arena pages n : ℕ) → fits logs arena pages n ≡ true → n < arena + 1
+passes_within : (logs : List LogRow) (arena pages n : ℕ) → fits logs arena pages n ≡ true → n < arena + 1
 passes_within logs arena pages n is = let both = within_and_free logs arena pages n is in omega (arith, both.0)
 
-same_place : (logs : List Source) (arena pages : ℕ) (first found : Option ℕ) → arena < 2 ^ 32 → fits logs arena pages 0 ≡ false →
+same_place : (logs : List LogRow) (arena pages : ℕ) (first found : Option ℕ) → arena < 2 ^ 32 → fits logs arena pages 0 ≡ false →
     IsFirst (fits logs arena pages) 0 (arena + 1) first → Passes (fits logs arena pages) found →
     ((n : ℕ) → fits logs arena pages n ≡ false → fits logs arena pages (suc n) ≡ true → IsUpTo found (suc n)) → found ≡ first
 same_place logs arena pages None None small none is passes reach = refl
@@ -289,7 +289,7 @@ same_place logs arena pages (Some (suc first)) (Some n) small none is passes rea
         ap Some (let e : n ≡ suc first = omega (arith, upto, not_below) in e)
 
 -- the least end is the least place, where page 0 is none
-pub least_is : (logs : List Source) (arena pages : ℕ) → arena < 2 ^ 32 → fits logs arena pages 0 ≡ false →
+pub least_is : (logs : List LogRow) (arena pages : ℕ) → arena < 2 ^ 32 → fits logs arena pages 0 ≡ false →
     least_end (fits logs arena pages) logs None ≡ find (fits logs arena pages) (range_with_len 0 (arena + 1))
 least_is logs arena pages small none =
     same_place logs arena pages (find (fits logs arena pages) (range_with_len 0 (arena + 1))) (least_end (fits logs arena pages) logs None)

@@ -6,7 +6,7 @@ use Rattle.std.proofs.lemmas.List.Folds.{list_any-append}
 use Rattle.stream_registry.specs.declared.row.Origin.{Origin}
 use Rattle.stream_registry.specs.declared.row.Origin.TheVariants.{Published, Remote}
 use Rattle.stream_registry.specs.declared.row.Registration.{Registration}
-use Rattle.stream_registry.specs.declared.row.Source.{Source}
+use Rattle.stream_registry.specs.declared.row.LogRow.{LogRow}
 use Rattle.stream_registry.specs.Leaving.{is_another_registration, is_own_registration, is_own_with}
 use Rattle.stream_registry.specs.Lingering.{is_used, is_with, left_alone, settled_one}
 use Rattle.stream_registry.specs.Origins.{is_published_by, is_remote, left_by}
@@ -22,7 +22,7 @@ either_true : (b : Bool) → (b || true) ≡ true
 either_true true = refl
 either_true false = refl
 
-settled_rests : (registrations : List Registration) (now : ℕ) (log : Source) → Rests registrations (settled_one registrations now log)
+settled_rests : (registrations : List Registration) (now : ℕ) (log : LogRow) → Rests registrations (settled_one registrations now log)
 settled_rests registrations now log = by (is_used registrations log.number) refl
   where
     by : (used : Bool) → is_used registrations log.number ≡ used → Rests registrations (cond used log (left_alone now log))
@@ -31,7 +31,7 @@ settled_rests registrations now log = by (is_used registrations log.number) refl
         ap (λ (b : Bool). is_used registrations log.number || b) (left_rests now log.origin)
         ∙ either_true (is_used registrations log.number)
 
-pub all_settled : (registrations : List Registration) (now : ℕ) (logs : List Source) →
+pub all_settled : (registrations : List Registration) (now : ℕ) (logs : List LogRow) →
     All (Rests registrations) (map (settled_one registrations now) logs)
 all_settled registrations now logs =
     All-map (Rests registrations) (settled_one registrations now) logs
@@ -44,7 +44,7 @@ left_same now (Published exclusive None) left = absurd (cc)
 left_same now (Published exclusive (Some since)) left = refl
 left_same now (Remote address initial_term join) left = refl
 
-settled_same : (registrations : List Registration) (now : ℕ) (log : Source) → Rests registrations log →
+settled_same : (registrations : List Registration) (now : ℕ) (log : LogRow) → Rests registrations log →
     settled_one registrations now log ≡ log
 settled_same registrations now log rest = by (is_used registrations log.number) refl
   where
@@ -60,7 +60,7 @@ settled_same registrations now log rest = by (is_used registrations log.number) 
 
 -- ---- and where all but one rest, only that one changes
 
-where_same : (source : ℕ) (registrations : List Registration) (now : ℕ) (log : Source) → RestsBeside source registrations log →
+where_same : (source : ℕ) (registrations : List Registration) (now : ℕ) (log : LogRow) → RestsBeside source registrations log →
     settled_where source registrations now log ≡ settled_one registrations now log
 where_same source registrations now log rest = by (log.number == source) rest
   where
@@ -69,7 +69,7 @@ where_same source registrations now log rest = by (log.number == source) rest
     by true rest = refl
     by false rest = sym (settled_same registrations now log rest)
 
-pub settled_beside : (source : ℕ) (registrations : List Registration) (now : ℕ) (logs : List Source) →
+pub settled_beside : (source : ℕ) (registrations : List Registration) (now : ℕ) (logs : List LogRow) →
     All (RestsBeside source registrations) logs →
     map (settled_where source registrations now) logs ≡ map (settled_one registrations now) logs
 settled_beside source registrations now [] all = refl
@@ -95,16 +95,16 @@ either_more true c d more is = more_true d c (more refl)
 either_more false true d more is = either_true d
 either_more false false d more is = absurd (cc)
 
-pub registered_rest : (registrations : List Registration) (registration : Registration) (logs : List Source) →
+pub registered_rest : (registrations : List Registration) (registration : Registration) (logs : List LogRow) →
     All (Rests registrations) logs → All (Rests (registrations ++ registration ∷ [])) logs
 registered_rest registrations registration =
     All-weaker (Rests registrations) (Rests (registrations ++ registration ∷ []))
-    (λ (log : Source). either_more (is_used registrations log.number) (is_left_by log.origin)
+    (λ (log : LogRow). either_more (is_used registrations log.number) (is_left_by log.origin)
     (is_used (registrations ++ registration ∷ []) log.number) (more_used registrations registration log.number))
 
 -- ---- a log comes, with which somebody is registered, or an image
 
-pub made_rest : (registrations : List Registration) (logs : List Source) (log : Source) → is_used registrations log.number ≡ true →
+pub made_rest : (registrations : List Registration) (logs : List LogRow) (log : LogRow) → is_used registrations log.number ≡ true →
     All (Rests registrations) logs → All (Rests registrations) (logs ++ log ∷ [])
 made_rest registrations logs log used all =
     All-push (Rests registrations) logs log all (more_true (is_used registrations log.number) (is_left_by log.origin) used)
@@ -113,7 +113,7 @@ remote_left : (origin : Origin) → not (is_published_by origin) ≡ true → is
 remote_left (Published exclusive since) remote = absurd (cc)
 remote_left (Remote address initial_term join) remote = refl
 
-pub imaged_rest : (registrations : List Registration) (logs : List Source) (log : Source) → is_remote log ≡ true →
+pub imaged_rest : (registrations : List Registration) (logs : List LogRow) (log : LogRow) → is_remote log ≡ true →
     All (Rests registrations) logs → All (Rests registrations) (logs ++ log ∷ [])
 imaged_rest registrations logs log remote all =
     All-push (Rests registrations) logs log all
@@ -207,10 +207,10 @@ rests_step false used left after is rest = ap (λ (b : Bool). b || left) (is ref
 
 pub others_rest : (client number source : ℕ) (rows : List Registration) →
     list_any (is_own_with client number source) rows ≡ true →
-    length (filter (is_another_registration client number) rows) + 1 ≡ length rows → (logs : List Source) →
+    length (filter (is_another_registration client number) rows) + 1 ≡ length rows → (logs : List LogRow) →
     All (Rests rows) logs → All (RestsBeside source (filter (is_another_registration client number) rows)) logs
 others_rest client number source rows any one =
     All-weaker (Rests rows) (RestsBeside source (filter (is_another_registration client number) rows))
-    (λ (log : Source). rests_step (log.number == source) (is_used rows log.number) (is_left_by log.origin)
+    (λ (log : LogRow). rests_step (log.number == source) (is_used rows log.number) (is_left_by log.origin)
     (is_used (filter (is_another_registration client number) rows) log.number)
     (others_used client number source log.number rows any one))

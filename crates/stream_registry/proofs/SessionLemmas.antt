@@ -7,7 +7,7 @@ use Rattle.std.proofs.lemmas.Bool.Decides.{Decides-int_eq, nat_tests}
 use Rattle.std.proofs.lemmas.Int.{of_z-to_z, to_z-of_z}
 use Rattle.std.proofs.lemmas.List.Filters.{length-filter_both}
 use Rattle.std.proofs.Math.Facts.{Fits-of_z}
-use Rattle.stream_registry.specs.declared.row.Source.{Source}
+use Rattle.stream_registry.specs.declared.row.LogRow.{LogRow}
 use Rattle.stream_registry.specs.Origins.{is_published}
 use Rattle.stream_registry.specs.Sessions.{after, has_session, is_taken, free_from, free_session}
 use Rattle.stream_registry.specs.SessionLaws.{nth_after, SessionsAreFree}
@@ -38,7 +38,7 @@ differ c j k before small same =
 
 -- ---- the logs that have another session
 
-abbrev lacks : ℤ → Source → Bool
+abbrev lacks : ℤ → LogRow → Bool
 lacks session log = not (has_session session log)
 
 rest_has : (here rest : Bool) → (here ≡ true → ⊥) → (here || rest) ≡ true → rest ≡ true
@@ -49,7 +49,7 @@ either_has : (here rest kept : Bool) → (rest ≡ true → kept ≡ true) → (
 either_has true rest kept more is = refl
 either_has false rest kept more is = more is
 
-taken_step : (b : Bool) (session : ℤ) (log : Source) (logs kept : List Source) →
+taken_step : (b : Bool) (session : ℤ) (log : LogRow) (logs kept : List LogRow) →
     (b ≡ true → has_session session log ≡ true → ⊥) →
     (is_taken logs session ≡ true → is_taken kept session ≡ true) →
     is_taken (log ∷ logs) session ≡ true → is_taken (cond (not b) (log ∷ kept) kept) session ≡ true
@@ -60,10 +60,10 @@ behind_kind : (published same : Bool) → (published && same) ≡ true → same 
 behind_kind true same is = is
 behind_kind false same is = absurd (cc)
 
-session_is : (session : ℤ) (log : Source) → has_session session log ≡ true → log.session ≡ session
+session_is : (session : ℤ) (log : LogRow) → has_session session log ≡ true → log.session ≡ session
 session_is session log has = (Decides-int_eq log.session session).0 (behind_kind (is_published log) (int_eq log.session session) has)
 
-still_taken : (session other : ℤ) (logs : List Source) → (session ≡ other → ⊥) → is_taken logs session ≡ true →
+still_taken : (session other : ℤ) (logs : List LogRow) → (session ≡ other → ⊥) → is_taken logs session ≡ true →
     is_taken (filter (lacks other) logs) session ≡ true
 still_taken session other [] never is = is
 still_taken session other (log ∷ logs) never is =
@@ -71,12 +71,12 @@ still_taken session other (log ∷ logs) never is =
     (λ has one. never (sym (session_is session log one) ∙ session_is other log has))
     (still_taken session other logs never) is
 
-shorter_step : (b : Bool) (log : Source) (logs kept : List Source) (rest : Bool) → length kept ≤ length logs →
+shorter_step : (b : Bool) (log : LogRow) (logs kept : List LogRow) (rest : Bool) → length kept ≤ length logs →
     (rest ≡ true → length kept < length logs) → (b || rest) ≡ true → length (cond (not b) (log ∷ kept) kept) < suc (length logs)
 shorter_step true log logs kept rest few more is = omega (arith, few)
 shorter_step false log logs kept rest few more is = omega (arith, more is)
 
-shorter : (session : ℤ) (logs : List Source) → is_taken logs session ≡ true →
+shorter : (session : ℤ) (logs : List LogRow) → is_taken logs session ≡ true →
     length (filter (lacks session) logs) < length logs
 shorter session [] is = absurd (cc)
 shorter session (log ∷ logs) is =
@@ -86,7 +86,7 @@ shorter session (log ∷ logs) is =
     (omega (arith, both)) (shorter session logs) is
 
 -- as many sessions as these logs have are at most as many as the logs
-crowded : (n c : ℕ) (logs : List Source) → n ≤ 2 ^ 32 → ((k : ℕ) → k < n → is_taken logs (session_at c k) ≡ true) →
+crowded : (n c : ℕ) (logs : List LogRow) → n ≤ 2 ^ 32 → ((k : ℕ) → k < n → is_taken logs (session_at c k) ≡ true) →
     n ≤ length logs
 crowded zero c logs small taken = omega arith
 crowded (suc n) c logs small taken =
@@ -98,20 +98,20 @@ crowded (suc n) c logs small taken =
 
 -- ---- the search
 
-record IsSearched (logs : List Source) (first session : ℤ) (tries : ℕ) : Type 0 where
+record IsSearched (logs : List LogRow) (first session : ℤ) (tries : ℕ) : Type 0 where
   pub many : ℕ
   pub found : session ≡ nth_after many first
   pub within : many ≤ tries
   pub taken_before : (k : ℕ) → k < many → is_taken logs (nth_after k first) ≡ true
   pub goes_on : is_taken logs session ≡ true → many ≡ tries
 
-taken_from : (logs : List Source) (first : ℤ) (many k : ℕ) → is_taken logs first ≡ true →
+taken_from : (logs : List LogRow) (first : ℤ) (many k : ℕ) → is_taken logs first ≡ true →
     ((j : ℕ) → j < many → is_taken logs (nth_after j (after first)) ≡ true) → k < suc many →
     is_taken logs (nth_after k first) ≡ true
 taken_from logs first many zero here more before = here
 taken_from logs first many (suc k) here more before = more k (omega (arith, before))
 
-searched_step : (b : Bool) (logs : List Source) (first session : ℤ) (tries : ℕ) → is_taken logs first ≡ b →
+searched_step : (b : Bool) (logs : List LogRow) (first session : ℤ) (tries : ℕ) → is_taken logs first ≡ b →
     IsSearched logs (after first) session tries → IsSearched logs first (cond b session first) (suc tries)
 searched_step true logs first session tries is more = record {
   many = suc more.many;
@@ -128,7 +128,7 @@ searched_step false logs first session tries is more = record {
   goes_on = λ taken. absurd (cc);
 }
 
-searched : (others logs : List Source) (first : ℤ) → IsSearched logs first (free_from others logs first) (length others)
+searched : (others logs : List LogRow) (first : ℤ) → IsSearched logs first (free_from others logs first) (length others)
 searched [] logs first = record {
   many = 0;
   found = refl;
@@ -140,7 +140,7 @@ searched (other ∷ others) logs first =
     searched_step (is_taken logs first) logs first (free_from others logs (after first)) (length others) refl
     (searched others logs (after first))
 
-up_to : (b : Bool) (logs : List Source) (first : ℤ) (many k : ℕ) → nat_lt k many ≡ b →
+up_to : (b : Bool) (logs : List LogRow) (first : ℤ) (many k : ℕ) → nat_lt k many ≡ b →
     ((j : ℕ) → j < many → is_taken logs (nth_after j first) ≡ true) → is_taken logs (nth_after many first) ≡ true →
     k < suc many → is_taken logs (nth_after k first) ≡ true
 up_to true logs first many k is before last within = before k (grind (arith, nat_tests))
@@ -158,7 +158,7 @@ nth_at k first fits =
     subst (λ s. nth_after k s ≡ session_at (cast_unsigned w32 first) k) (to_z-of_z w32 first fits)
     (nth_is k (cast_unsigned w32 first) small)
 
-never_all : (logs : List Source) (first session : ℤ) → length logs < 2 ^ 32 → FitsSigned w32 first →
+never_all : (logs : List LogRow) (first session : ℤ) → length logs < 2 ^ 32 → FitsSigned w32 first →
     IsSearched logs first session (length logs) → is_taken logs session ≡ true → ⊥
 never_all logs first session few fits search_ taken =
     let last : is_taken logs (nth_after search_.many first) ≡ true = subst (λ s. is_taken logs s ≡ true) search_.found taken in

@@ -10,7 +10,7 @@ use Rattle.std.proofs.lemmas.List.Folds.{list_any_at}
 use Rattle.std.proofs.lemmas.List.Kept.{AllPairs-filter}
 use Rattle.std.proofs.lemmas.List.Quantifiers.{all_pairs_push}
 use Rattle.stream_registry.specs.declared.row.Registration.{Registration}
-use Rattle.stream_registry.specs.declared.row.Source.{Source}
+use Rattle.stream_registry.specs.declared.row.LogRow.{LogRow}
 use Rattle.stream_registry.specs.declared.wanted.Adding.{Adding}
 use Rattle.stream_registry.specs.declared.wanted.Adding.TheVariants.{Join, Make}
 use Rattle.stream_registry.specs.declared.wanted.ImageWanted.{ImageWanted}
@@ -29,10 +29,10 @@ use Rattle.stream_registry.proofs.LimitLemmas.{make_has_room_for_log}
 
 -- ---- as many slots as these logs have are at most as many as the logs
 
-abbrev is_at : ℕ → Source → Bool
+abbrev is_at : ℕ → LogRow → Bool
 is_at slot log = log.slot == slot
 
-abbrev lacks : ℕ → Source → Bool
+abbrev lacks : ℕ → LogRow → Bool
 lacks slot log = not (is_at slot log)
 
 rest_has : (here rest : Bool) → (here ≡ true → ⊥) → (here || rest) ≡ true → rest ≡ true
@@ -43,26 +43,26 @@ either_has : (here rest kept : Bool) → (rest ≡ true → kept ≡ true) → (
 either_has true rest kept more is = refl
 either_has false rest kept more is = more is
 
-there_step : (b : Bool) (slot : ℕ) (log : Source) (logs kept : List Source) → (b ≡ true → is_at slot log ≡ true → ⊥) →
+there_step : (b : Bool) (slot : ℕ) (log : LogRow) (logs kept : List LogRow) → (b ≡ true → is_at slot log ≡ true → ⊥) →
     (list_any (is_at slot) logs ≡ true → list_any (is_at slot) kept ≡ true) → list_any (is_at slot) (log ∷ logs) ≡ true →
     list_any (is_at slot) (cond (not b) (log ∷ kept) kept) ≡ true
 there_step true slot log logs kept never more is = more (rest_has (is_at slot log) (list_any (is_at slot) logs) (never refl) is)
 there_step false slot log logs kept never more is =
     either_has (is_at slot log) (list_any (is_at slot) logs) (list_any (is_at slot) kept) more is
 
-still_there : (slot other : ℕ) (logs : List Source) → (slot ≡ other → ⊥) → list_any (is_at slot) logs ≡ true →
+still_there : (slot other : ℕ) (logs : List LogRow) → (slot ≡ other → ⊥) → list_any (is_at slot) logs ≡ true →
     list_any (is_at slot) (filter (lacks other) logs) ≡ true
 still_there slot other [] never is = is
 still_there slot other (log ∷ logs) never is =
     there_step (is_at other log) slot log logs (filter (lacks other) logs)
     (λ has one. never (sym (eqb-true log.slot slot one) ∙ eqb-true log.slot other has)) (still_there slot other logs never) is
 
-shorter_step : (b : Bool) (log : Source) (logs kept : List Source) (rest : Bool) → length kept ≤ length logs →
+shorter_step : (b : Bool) (log : LogRow) (logs kept : List LogRow) (rest : Bool) → length kept ≤ length logs →
     (rest ≡ true → length kept < length logs) → (b || rest) ≡ true → length (cond (not b) (log ∷ kept) kept) < suc (length logs)
 shorter_step true log logs kept rest few more is = omega (arith, few)
 shorter_step false log logs kept rest few more is = omega (arith, more is)
 
-shorter : (slot : ℕ) (logs : List Source) → list_any (is_at slot) logs ≡ true → length (filter (lacks slot) logs) < length logs
+shorter : (slot : ℕ) (logs : List LogRow) → list_any (is_at slot) logs ≡ true → length (filter (lacks slot) logs) < length logs
 shorter slot [] is = absurd (cc)
 shorter slot (log ∷ logs) is =
     let both : length (filter (is_at slot) logs) + length (filter (lacks slot) logs) ≡ length logs =
@@ -70,7 +70,7 @@ shorter slot (log ∷ logs) is =
     shorter_step (is_at slot log) log logs (filter (lacks slot) logs) (list_any (is_at slot) logs) (omega (arith, both))
     (shorter slot logs) is
 
-crowded : (n : ℕ) (logs : List Source) → ((k : ℕ) → k < n → list_any (is_at k) logs ≡ true) → n ≤ length logs
+crowded : (n : ℕ) (logs : List LogRow) → ((k : ℕ) → k < n → list_any (is_at k) logs ≡ true) → n ≤ length logs
 crowded zero logs taken = omega arith
 crowded (suc n) logs taken =
     let fewer = shorter n logs (taken n (omega arith)) in
@@ -80,33 +80,33 @@ crowded (suc n) logs taken =
 
 -- ---- the logs of a kind
 
-kind_step : (b c rest : Bool) (slot : ℕ) (log : Source) (kept : List Source) → is_at slot log ≡ c →
+kind_step : (b c rest : Bool) (slot : ℕ) (log : LogRow) (kept : List LogRow) → is_at slot log ≡ c →
     (rest ≡ true → list_any (is_at slot) kept ≡ true) → ((b && c) || rest) ≡ true →
     list_any (is_at slot) (cond b (log ∷ kept) kept) ≡ true
 kind_step true true rest slot log kept here more is = ap (λ (t : Bool). t || list_any (is_at slot) kept) here
 kind_step true false rest slot log kept here more is = ap (λ (t : Bool). t || list_any (is_at slot) kept) here ∙ more is
 kind_step false c rest slot log kept here more is = more is
 
-of_kind : (published : Bool) (slot : ℕ) (logs : List Source) → is_slot_taken published logs slot ≡ true →
+of_kind : (published : Bool) (slot : ℕ) (logs : List LogRow) → is_slot_taken published logs slot ≡ true →
     list_any (is_at slot) (filter (is_of_kind published) logs) ≡ true
 of_kind published slot [] is = is
 of_kind published slot (log ∷ logs) is =
     kind_step (is_of_kind published log) (is_at slot log) (is_slot_taken published logs slot) slot log
     (filter (is_of_kind published) logs) refl (of_kind published slot logs) is
 
-fewer_of_kind : (published : Bool) (logs : List Source) → length (filter (is_of_kind published) logs) ≤ length logs
+fewer_of_kind : (published : Bool) (logs : List LogRow) → length (filter (is_of_kind published) logs) ≤ length logs
 fewer_of_kind published logs =
     let both = length-filter_both (is_of_kind published) (λ log. not (is_of_kind published log)) (λ log. refl) logs in
     omega (arith, both)
 
 -- ---- the search
 
-record IsSearched (published : Bool) (logs : List Source) (first slot tries : ℕ) : Type 0 where
+record IsSearched (published : Bool) (logs : List LogRow) (first slot tries : ℕ) : Type 0 where
   pub behind : first ≤ slot
   pub taken_between : (k : ℕ) → first ≤ k → k < slot → is_slot_taken published logs k ≡ true
   pub goes_on : is_slot_taken published logs slot ≡ true → slot ≡ first + tries
 
-at_or_behind : (b : Bool) (published : Bool) (logs : List Source) (first k : ℕ) → nat_lt first k ≡ b → first ≤ k →
+at_or_behind : (b : Bool) (published : Bool) (logs : List LogRow) (first k : ℕ) → nat_lt first k ≡ b → first ≤ k →
     is_slot_taken published logs first ≡ true → (first + 1 ≤ k → is_slot_taken published logs k ≡ true) →
     is_slot_taken published logs k ≡ true
 at_or_behind true published logs first k is behind here more =
@@ -117,7 +117,7 @@ at_or_behind false published logs first k is behind here more =
     let same : first ≡ k = omega (arith, not_after, behind) in
     subst (λ (n : ℕ). is_slot_taken published logs n ≡ true) same here
 
-searched_step : (b : Bool) (published : Bool) (logs : List Source) (first slot tries : ℕ) →
+searched_step : (b : Bool) (published : Bool) (logs : List LogRow) (first slot tries : ℕ) →
     is_slot_taken published logs first ≡ b → IsSearched published logs (first + 1) slot tries →
     IsSearched published logs first (cond b slot first) (suc tries)
 searched_step true published logs first slot tries is more = record {
@@ -132,7 +132,7 @@ searched_step false published logs first slot tries is more = record {
   goes_on = λ taken. absurd (cc);
 }
 
-searched : (published : Bool) (others logs : List Source) (first : ℕ) →
+searched : (published : Bool) (others logs : List LogRow) (first : ℕ) →
     IsSearched published logs first (slot_from published others logs first) (length others)
 searched published [] logs first = record {
   behind = omega arith;
@@ -147,7 +147,7 @@ not_true : (b : Bool) → (b ≡ true → ⊥) → b ≡ false
 not_true true never = absurd (never refl)
 not_true false never = refl
 
-up_to : (b : Bool) (published : Bool) (logs : List Source) (slot k : ℕ) → nat_lt k slot ≡ b → k < slot + 1 →
+up_to : (b : Bool) (published : Bool) (logs : List LogRow) (slot k : ℕ) → nat_lt k slot ≡ b → k < slot + 1 →
     ((j : ℕ) → j < slot → is_slot_taken published logs j ≡ true) → is_slot_taken published logs slot ≡ true →
     is_slot_taken published logs k ≡ true
 up_to true published logs slot k is within before last = before k (ltb-true k slot is)
@@ -156,7 +156,7 @@ up_to false published logs slot k is within before last =
     let same : slot ≡ k = omega (arith, not_before, within) in
     subst (λ (n : ℕ). is_slot_taken published logs n ≡ true) same last
 
-never_all : (published : Bool) (logs : List Source) (slot : ℕ) → IsSearched published logs 0 slot (length logs) →
+never_all : (published : Bool) (logs : List LogRow) (slot : ℕ) → IsSearched published logs 0 slot (length logs) →
     is_slot_taken published logs slot ≡ true → ⊥
 never_all published logs slot result taken =
     let over = crowded (slot + 1) (filter (is_of_kind published) logs)
@@ -166,7 +166,7 @@ never_all published logs slot result taken =
     let all = result.goes_on taken in
     omega (arith, over, few, all)
 
-least_slot : (published : Bool) (logs : List Source) → IsLeastSlot published logs (free_slot published logs)
+least_slot : (published : Bool) (logs : List LogRow) → IsLeastSlot published logs (free_slot published logs)
 unfolding free_slot
 least_slot published logs =
     let result = searched published logs logs 0 in
@@ -176,7 +176,7 @@ least_slot published logs =
       taken_below = λ lower below. result.taken_between lower (omega arith) below;
     }
 
-within_kind : (published : Bool) (logs : List Source) → free_slot published logs ≤ length (filter (is_of_kind published) logs)
+within_kind : (published : Bool) (logs : List LogRow) → free_slot published logs ≤ length (filter (is_of_kind published) logs)
 within_kind published logs =
     crowded (free_slot published logs) (filter (is_of_kind published) logs)
     (λ k below. of_kind published k logs ((least_slot published logs).taken_below k below))
@@ -186,13 +186,13 @@ within_kind published logs =
 differs : {X : Type 0} (b : Bool) → b ≡ true → b ≡ false → X
 differs b is is_not = absurd (let e : true ≡ false = sym is ∙ is_not in cc)
 
-holds_slot : (published : Bool) (slot : ℕ) (log : Source) → is_of_kind published log ≡ true → log.slot ≡ slot →
+holds_slot : (published : Bool) (slot : ℕ) (log : LogRow) → is_of_kind published log ≡ true → log.slot ≡ slot →
     has_slot published slot log ≡ true
 holds_slot published slot log kind same =
     let there : is_at slot log ≡ true = eq-eqb log.slot slot same in
     ap (λ (b : Bool). b && is_at slot log) kind ∙ there
 
-new_apart : (published : Bool) (logs : List Source) (k : ℕ) (d : Source) → k < length logs →
+new_apart : (published : Bool) (logs : List LogRow) (k : ℕ) (d : LogRow) → k < length logs →
     is_of_kind published (get_or logs k d) ≡ true → (get_or logs k d).slot ≡ free_slot published logs → ⊥
 new_apart published logs k d within kind same =
     let slot = free_slot published logs in
@@ -200,8 +200,8 @@ new_apart published logs k d within kind same =
     (list_any_at (has_slot published slot) logs k d within (holds_slot published slot (get_or logs k d) kind same))
     (least_slot published logs).is_free
 
-mapped_apart : (f : Source → Source) →
-    ((log other : Source) → ShareNoSlot log other → ShareNoSlot (f log) (f other)) → (logs : List Source) →
+mapped_apart : (f : LogRow → LogRow) →
+    ((log other : LogRow) → ShareNoSlot log other → ShareNoSlot (f log) (f other)) → (logs : List LogRow) →
     AllPairs ShareNoSlot logs → AllPairs ShareNoSlot (map f logs)
 mapped_apart f keeps logs h i j d before within =
     let all : length (map f logs) ≡ length logs = length-map logs f in
@@ -211,20 +211,20 @@ mapped_apart f keeps logs h i j d before within =
     (subst (λ other. ShareNoSlot (f (get_or logs i d)) other) (sym second)
     (keeps (get_or logs i d) (get_or logs j d) (h i j d before (omega (arith, all, within)))))
 
-settled_slot : (registrations : List Registration) (now : ℕ) (log : Source) → (settled_one registrations now log).slot ≡ log.slot
+settled_slot : (registrations : List Registration) (now : ℕ) (log : LogRow) → (settled_one registrations now log).slot ≡ log.slot
 settled_slot registrations now log = by (is_used registrations log.number)
   where
     by : (b : Bool) → (cond b log (left_alone now log)).slot ≡ log.slot
     by true = refl
     by false = refl
 
-settled_apart : (registrations : List Registration) (now : ℕ) (log other : Source) → ShareNoSlot log other →
+settled_apart : (registrations : List Registration) (now : ℕ) (log other : LogRow) → ShareNoSlot log other →
     ShareNoSlot (settled_one registrations now log) (settled_one registrations now other)
 settled_apart registrations now log other apart kinds slots =
     apart (sym (settled_kind registrations now log) ∙ kinds ∙ settled_kind registrations now other)
     (sym (settled_slot registrations now log) ∙ slots ∙ settled_slot registrations now other)
 
-settled_in_reach : (registrations : List Registration) (now : ℕ) (log : Source) → IsInReach log →
+settled_in_reach : (registrations : List Registration) (now : ℕ) (log : LogRow) → IsInReach log →
     IsInReach (settled_one registrations now log)
 settled_in_reach registrations now log within =
     subst (λ (b : Bool). (settled_one registrations now log).slot < limit_of b) (sym (settled_kind registrations now log))
@@ -238,7 +238,7 @@ no_slots s none = record {
   apart = λ i j d before within. absurd (let e : length s.sources ≡ 0 = ap length none in omega (arith, e, within));
 }
 
-kept_slots : (s t : Streams) (stays : Source → Bool) → t.sources ≡ filter stays s.sources → HasOwnSlots s → HasOwnSlots t
+kept_slots : (s t : Streams) (stays : LogRow → Bool) → t.sources ≡ filter stays s.sources → HasOwnSlots s → HasOwnSlots t
 kept_slots s t stays is h = record {
   within = subst (All IsInReach) (sym is) (All-filter stays IsInReach s.sources h.within);
   apart = subst (AllPairs ShareNoSlot) (sym is) (AllPairs-filter ShareNoSlot stays s.sources h.apart);

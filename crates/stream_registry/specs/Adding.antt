@@ -2,7 +2,7 @@
 use Rattle.std.specs.Prelude.{ℕ, ℤ, Bool, true, ◌&&◌, nat_lt, [], ◌∷◌, ◌++◌, length, filter, Option, Some, None, Result, Ok, Err, is_some, unwrap_or, if◌then◌else◌}
 use Rattle.stream_registry.specs.declared.fault.StreamFault.{StreamFault}
 use Rattle.stream_registry.specs.declared.fault.StreamFault.TheVariants.{Conflict, Full}
-use Rattle.stream_registry.specs.declared.row.Source.{Source}
+use Rattle.stream_registry.specs.declared.row.LogRow.{LogRow}
 use Rattle.stream_registry.specs.declared.row.Origin.TheVariants.{Published}
 use Rattle.stream_registry.specs.declared.row.Registration.{Registration}
 use Rattle.stream_registry.specs.declared.wanted.Adding.{Adding}
@@ -28,7 +28,7 @@ abbrev pub has_room_for_subscription : Streams → Bool
 has_room_for_subscription s = nat_lt (length s.subscriptions) 512
 
 -- it joins this one, unless it says something else
-unfoldable pub joining_of : Streams → Shape → Source → Result Adding StreamFault
+unfoldable pub joining_of : Streams → Shape → LogRow → Result Adding StreamFault
 joining_of s channel log =
     if contradicts s.defaults channel log then Err Conflict
     else if has_room_for_registration s then Ok (Join log.number log.session)
@@ -45,7 +45,7 @@ making_of s wanted =
     else if has_room_for_registration s && has_room_for_log s then Ok (Make (session_of s wanted.channel))
     else Err Full
 
-abbrev pub adding_by : Streams → Wanted → Option Source → Result Adding StreamFault
+abbrev pub adding_by : Streams → Wanted → Option LogRow → Result Adding StreamFault
 adding_by s wanted None = making_of s wanted
 adding_by s wanted (Some log) = joining_of s wanted.channel log
 
@@ -65,7 +65,7 @@ registered s number client wanted source =
     record s { registrations = s.registrations ++ registration_of number client wanted source ∷ [] }
 
 -- a log by this number, at this place
-abbrev pub log_of : Streams → ℕ → Wanted → ℕ → ℤ → Source
+abbrev pub log_of : Streams → ℕ → Wanted → ℕ → ℤ → LogRow
 log_of s number wanted place session = record {
   number = number;
   channel = wanted.channel;

@@ -2,7 +2,7 @@
 use Rattle.std.specs.Prelude.{ℕ, ℤ, Bool, false, not, ◌&&◌, nat_lt, List, [], ◌∷◌, ◌++◌, length, filter, find, Option}
 use Rattle.std.specs.Ordering.{int_eq}
 use Rattle.stream_registry.specs.declared.row.Origin.TheVariants.{Remote}
-use Rattle.stream_registry.specs.declared.row.Source.{Source}
+use Rattle.stream_registry.specs.declared.row.LogRow.{LogRow}
 use Rattle.stream_registry.specs.declared.wanted.ImageWanted.{ImageWanted}
 use Rattle.stream_registry.specs.Lingering.{is_image_of}
 use Rattle.stream_registry.specs.LogPages.{free_place, pages_of}
@@ -17,15 +17,15 @@ abbrev pub has_room_for_image : Streams → Bool
 has_room_for_image s = nat_lt (length (filter is_remote s.sources)) 512
 
 -- the image of a publisher that sends to that place on that stream, with that session
-unfoldable pub is_image_at : Shape → ℤ → ℤ → Source → Bool
+unfoldable pub is_image_at : Shape → ℤ → ℤ → LogRow → Bool
 is_image_at channel session stream log =
     is_remote log && int_eq log.session session && int_eq log.stream stream && is_same_place log.channel channel
 
-abbrev pub image_at : Streams → Shape → ℤ → ℤ → Option Source
+abbrev pub image_at : Streams → Shape → ℤ → ℤ → Option LogRow
 image_at s channel session stream = find (is_image_at channel session stream) s.sources
 
 -- an image by this number, at this place
-abbrev pub image_of : Streams → ℕ → ImageWanted → ℕ → Source
+abbrev pub image_of : Streams → ℕ → ImageWanted → ℕ → LogRow
 image_of s number wanted place = record {
   number = number;
   channel = wanted.channel;
@@ -46,7 +46,7 @@ abbrev pub image_place_for : Streams → ℕ → ImageWanted → Option ℕ
 image_place_for s arena_pages wanted = free_place s arena_pages (pages_of wanted.measures.term_length)
 
 -- publications stay, whatever their numbers, and so do all other images
-abbrev pub stays_beside : List ℕ → Source → Bool
+abbrev pub stays_beside : List ℕ → LogRow → Bool
 stays_beside numbers log = not (is_image_of numbers log)
 
 -- the images of these numbers are gone

@@ -1,7 +1,7 @@
 -- Which pages of the arena live logs hold, and where a new log goes. A page has 4,096 bytes. Own rules.
 use Rattle.std.specs.Prelude.{ℕ, ◌+◌, ◌*◌, ◌/◌, Bool, true, not, ◌&&◌, nat_le, nat_lt, List, Option, Some, None, find}
 use Rattle.std.specs.List.{list_any, range_with_len}
-use Rattle.stream_registry.specs.declared.row.Source.{Source}
+use Rattle.stream_registry.specs.declared.row.LogRow.{LogRow}
 use Rattle.stream_registry.specs.declared.wanted.Wanted.{Wanted}
 use Rattle.stream_registry.specs.Measures.{measures_of}
 use Rattle.stream_registry.specs.Streams.{Streams}
@@ -11,19 +11,19 @@ abbrev pub pages_of : ℕ → ℕ
 pages_of term_length = 3 * term_length / 4096
 
 -- how many pages this log has
-abbrev pub log_pages : Source → ℕ
+abbrev pub log_pages : LogRow → ℕ
 log_pages log = pages_of log.measures.term_length
 
 -- the page is one of those from the log's place on
-abbrev pub holds : Source → ℕ → Bool
+abbrev pub holds : LogRow → ℕ → Bool
 holds log page = nat_le log.place page && nat_lt page (log.place + log_pages log)
 
 -- the log holds one of so many pages from `place` on
-unfoldable pub holds_some : ℕ → ℕ → Source → Bool
+unfoldable pub holds_some : ℕ → ℕ → LogRow → Bool
 holds_some pages place log = list_any (holds log) (range_with_len place pages)
 
 -- they are pages of the arena, and none of these logs holds one of them
-abbrev pub fits : List Source → ℕ → ℕ → ℕ → Bool
+abbrev pub fits : List LogRow → ℕ → ℕ → ℕ → Bool
 fits logs arena_pages pages place =
     nat_le (place + pages) arena_pages && not (list_any (holds_some pages place) logs)
 

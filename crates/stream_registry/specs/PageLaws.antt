@@ -1,7 +1,7 @@
 -- A log goes to the least place that is free, and no two logs ever share a page.
 use Rattle.std.specs.Prelude.{◌≡◌, ℕ, ◌+◌, ◌<◌, ◌≤◌, ℤ, List, All, AllPairs, Some, None}
 use Rattle.stream_registry.specs.declared.measures.Measures.{Measures}
-use Rattle.stream_registry.specs.declared.row.Source.{Source}
+use Rattle.stream_registry.specs.declared.row.LogRow.{LogRow}
 use Rattle.stream_registry.specs.declared.wanted.Adding.TheVariants.{Join, Make}
 use Rattle.stream_registry.specs.declared.wanted.ImageWanted.{ImageWanted}
 use Rattle.stream_registry.specs.declared.wanted.Wanted.{Wanted}
@@ -18,7 +18,7 @@ abbrev pub IsAmong : ℕ → ℕ → ℕ → Type 0
 IsAmong place pages page = (place ≤ page) × (page < place + pages)
 
 -- page of the log
-abbrev pub HasPage : Source → ℕ → Type 0
+abbrev pub HasPage : LogRow → ℕ → Type 0
 HasPage log page = IsAmong log.place (log_pages log) page
 
 -- so many pages from `place` on are pages of the arena, and no live log has one of them
@@ -36,7 +36,7 @@ pub record PlacesAreLeast : Type 0 where
       ¬ IsVacant s arena_pages pages place
 
 -- the two logs have no page in common
-abbrev pub ShareNoPage : Source → Source → Type 0
+abbrev pub ShareNoPage : LogRow → LogRow → Type 0
 ShareNoPage log other = (page : ℕ) → HasPage log page → ¬ HasPage other page
 
 -- all logs lie within the arena, and no two have a page in common

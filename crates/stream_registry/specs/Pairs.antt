@@ -3,7 +3,7 @@ use Rattle.std.specs.Prelude.{ℕ, Bool, false, not, ◌==◌, ◌&&◌, ◌||�
 use Rattle.std.specs.List.{flat_map, list_any}
 use Rattle.std.specs.Ordering.{int_eq}
 use Rattle.stream_registry.specs.declared.pairs.Pair.{Pair}
-use Rattle.stream_registry.specs.declared.row.Source.{Source}
+use Rattle.stream_registry.specs.declared.row.LogRow.{LogRow}
 use Rattle.stream_registry.specs.declared.row.Subscription.{Subscription}
 use Rattle.stream_registry.specs.Origins.{is_published}
 use Rattle.stream_registry.specs.Places.{is_ipc, is_udp, is_same_place}
@@ -26,13 +26,13 @@ reaches_published channel published =
     else is_ipc published.media && is_ipc channel.media
 
 -- and one of an endpoint the images of what is sent to it
-unfoldable pub reaches : Shape → Source → Bool
+unfoldable pub reaches : Shape → LogRow → Bool
 reaches channel log =
     if is_published log then reaches_published channel log.channel
     else is_udp channel.media && not channel.spy && is_same_place log.channel channel
 
 -- a subscription reads the logs that its channel reaches, of its stream, and of its session where it states one
-unfoldable pub fits : Source → Subscription → Bool
+unfoldable pub fits : LogRow → Subscription → Bool
 fits log subscription =
     reaches subscription.channel log && int_eq log.stream subscription.stream
     && agrees_with log.session (stated_session_of subscription.channel)
@@ -57,15 +57,15 @@ unfoldable pub is_allowed : List Client → Rules → ℕ → Subscription → B
 is_allowed clients policy epoch subscription =
     is_allowed_to policy epoch subscription (principal_at clients subscription.client)
 
-abbrev pub is_pair : List Client → Rules → ℕ → Source → Subscription → Bool
+abbrev pub is_pair : List Client → Rules → ℕ → LogRow → Subscription → Bool
 is_pair clients policy epoch log subscription =
     fits log subscription && is_allowed clients policy epoch subscription
 
-abbrev pub pair_of : Source → Subscription → Pair
+abbrev pub pair_of : LogRow → Subscription → Pair
 pair_of log subscription = record { source = log.number; subscription = subscription.number }
 
 -- the pairs of this log, by subscription
-abbrev pub pairs_at : List Client → Rules → ℕ → List Subscription → Source → List Pair
+abbrev pub pairs_at : List Client → Rules → ℕ → List Subscription → LogRow → List Pair
 pairs_at clients policy epoch subscriptions log =
     map (pair_of log) (filter (is_pair clients policy epoch log) subscriptions)
 
@@ -85,11 +85,11 @@ is_ever_allowed clients policy coming epoch subscription =
     is_allowed clients policy epoch subscription
     || list_any (λ later. is_allowed clients later epoch subscription) coming
 
-abbrev pub is_prospect : List Client → Rules → List Rules → ℕ → Source → Subscription → Bool
+abbrev pub is_prospect : List Client → Rules → List Rules → ℕ → LogRow → Subscription → Bool
 is_prospect clients policy coming epoch log subscription =
     fits log subscription && is_ever_allowed clients policy coming epoch subscription
 
-abbrev pub prospects_at : List Client → Rules → List Rules → ℕ → List Subscription → Source → List Pair
+abbrev pub prospects_at : List Client → Rules → List Rules → ℕ → List Subscription → LogRow → List Pair
 prospects_at clients policy coming epoch subscriptions log =
     map (pair_of log) (filter (is_prospect clients policy coming epoch log) subscriptions)
 

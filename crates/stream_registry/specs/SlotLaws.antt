@@ -1,7 +1,7 @@
 -- What holds of the slots that logs are given.
 use Rattle.std.specs.Prelude.{◌≡◌, ℕ, ◌<◌, ℤ, Bool, true, false, List, All, AllPairs, Ok}
 use Rattle.stream_registry.specs.declared.measures.Measures.{Measures}
-use Rattle.stream_registry.specs.declared.row.Source.{Source}
+use Rattle.stream_registry.specs.declared.row.LogRow.{LogRow}
 use Rattle.stream_registry.specs.declared.wanted.Adding.{Adding}
 use Rattle.stream_registry.specs.declared.wanted.ImageWanted.{ImageWanted}
 use Rattle.stream_registry.specs.declared.wanted.Wanted.{Wanted}
@@ -15,7 +15,7 @@ use Rattle.stream_registry.specs.Streams.{Streams, opened, cleared}
 use Rattle.channel_uri.specs.Channel.{Shape}
 
 -- no live log of the kind has the slot, and each number below it one of them has
-pub record IsLeastSlot (published : Bool) (logs : List Source) (slot : ℕ) : Type 0 where
+pub record IsLeastSlot (published : Bool) (logs : List LogRow) (slot : ℕ) : Type 0 where
   pub is_free : is_slot_taken published logs slot ≡ false
   pub taken_below : (lower : ℕ) → lower < slot → is_slot_taken published logs lower ≡ true
 
@@ -24,11 +24,11 @@ abbrev pub limit_of : Bool → ℕ
 limit_of true = 256
 limit_of false = 512
 
-abbrev pub IsInReach : Source → Type 0
+abbrev pub IsInReach : LogRow → Type 0
 IsInReach log = log.slot < limit_of (is_published log)
 
 -- of two logs of one kind, each has a slot of its own
-abbrev pub ShareNoSlot : Source → Source → Type 0
+abbrev pub ShareNoSlot : LogRow → LogRow → Type 0
 ShareNoSlot log other = is_published log ≡ is_published other → ¬ (log.slot ≡ other.slot)
 
 pub record HasOwnSlots (s : Streams) : Type 0 where
@@ -37,7 +37,7 @@ pub record HasOwnSlots (s : Streams) : Type 0 where
 
 -- the least free slot is found, and all logs have slots of their own, at first and after each call
 pub record SlotsAreFree : Type 0 where
-  pub least : (published : Bool) (logs : List Source) → IsLeastSlot published logs (free_slot published logs)
+  pub least : (published : Bool) (logs : List LogRow) → IsLeastSlot published logs (free_slot published logs)
   pub opened : (defaults : Measures) (first : ℤ) → HasOwnSlots (opened defaults first)
   pub added : (s : Streams) (number client place : ℕ) (wanted : Wanted) (adding : Adding) → HasOwnSlots s →
       adding_of s wanted ≡ Ok adding → HasOwnSlots (added s number client wanted place adding)

@@ -1,7 +1,7 @@
 -- What is published and what is subscribed to, as plain lists.
 use Rattle.std.specs.Prelude.{ℤ, List, []}
 use Rattle.stream_registry.specs.declared.measures.Measures.{Measures}
-use Rattle.stream_registry.specs.declared.row.Source.{Source}
+use Rattle.stream_registry.specs.declared.row.LogRow.{LogRow}
 use Rattle.stream_registry.specs.declared.row.Registration.{Registration}
 use Rattle.stream_registry.specs.declared.row.Subscription.{Subscription}
 
@@ -10,7 +10,7 @@ use Rattle.stream_registry.specs.declared.row.Subscription.{Subscription}
 pub record Streams : Type 0 where
   pub defaults : Measures
   pub next_session : ℤ
-  pub sources : List Source
+  pub sources : List LogRow
   pub registrations : List Registration
   pub subscriptions : List Subscription
 

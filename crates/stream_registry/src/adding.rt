@@ -4,7 +4,7 @@ ghost use Rattle.std.specs.Prelude.{◌≡◌, Ok, true};
 
 use crate::fault::StreamFault;
 use crate::joining::{contradicts, joined_at};
-use crate::row::{Origin, Registration, Source};
+use crate::row::{LogRow, Origin, Registration};
 use crate::sessions::{after, free_session, is_stated_again};
 use crate::slots::free_slot;
 use crate::streams::Streams;
@@ -73,7 +73,7 @@ impl Streams {
 
     /// A channel that would join this publication.
     #[tactic(auto, unfolding(crate::specs::Adding::joining_of))]
-    fn joining(&self, channel: &Channel, log: &Source) -> Result<Adding, StreamFault>
+    fn joining(&self, channel: &Channel, log: &LogRow) -> Result<Adding, StreamFault>
         ensures { result ≡ joining_of self.now channel.now log.now }
     {
         if contradicts(self.defaults, channel, log) {
@@ -137,10 +137,10 @@ impl Streams {
     }
 
     /// The row of a log that would be made under this number, at this place, with this session.
-    pub fn log(&self, number: u64, wanted: &Wanted, place: u64, session: i32) -> Source
+    pub fn log(&self, number: u64, wanted: &Wanted, place: u64, session: i32) -> LogRow
         ensures { result ≡ log_of self.now number wanted.now place session }
     {
-        Source {
+        LogRow {
             number,
             channel: wanted.channel.copy(),
             stream: wanted.stream,

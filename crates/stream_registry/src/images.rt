@@ -6,7 +6,7 @@ ghost use Rattle.std.specs.Prelude.{◌≡◌, find, true};
 use crate::lingering::is_image_of;
 use crate::log_pages::pages_of;
 use crate::places::{is_at, is_same_place};
-use crate::row::{Origin, Source};
+use crate::row::{LogRow, Origin};
 use crate::slots::free_slot;
 use crate::streams::Streams;
 use crate::wanted::ImageWanted;
@@ -18,7 +18,7 @@ const IMAGES: usize = 512;
 
 /// Whether it is the image of a publisher that sends to that place on that stream, with that session.
 #[tactic(auto, unfolding(crate::specs::Images::is_image_at))]
-fn is_image_at(log: &Source, channel: &Channel, session: i32, stream: i32) -> bool
+fn is_image_at(log: &LogRow, channel: &Channel, session: i32, stream: i32) -> bool
     ensures { result ≡ is_image_at channel.now session stream log.now }
 {
     !log.is_published()
@@ -29,11 +29,11 @@ fn is_image_at(log: &Source, channel: &Channel, session: i32, stream: i32) -> bo
 
 /// The image of a publisher that sends to that place on that stream, with that session.
 fn image_in<'a>(
-    logs: &'a [Source],
+    logs: &'a [LogRow],
     channel: &Channel,
     session: i32,
     stream: i32,
-) -> Option<&'a Source>
+) -> Option<&'a LogRow>
     ensures { option_copied result ≡ find (is_image_at channel.now session stream) logs.now }
 {
     for log in logs {
@@ -46,7 +46,7 @@ fn image_in<'a>(
 
 /// Whether it is the image of a publisher that sends to that endpoint on that stream, with that session.
 #[tactic(auto, unfolding(crate::specs::Images::is_image_at))]
-fn is_image_to(log: &Source, endpoint: &Address, session: i32, stream: i32) -> bool
+fn is_image_to(log: &LogRow, endpoint: &Address, session: i32, stream: i32) -> bool
     ensures { result ≡ is_image_at (endpoint_shape endpoint.now) session stream log.now }
 {
     !log.is_published()
@@ -57,11 +57,11 @@ fn is_image_to(log: &Source, endpoint: &Address, session: i32, stream: i32) -> b
 
 /// The image of a publisher that sends to that endpoint on that stream, with that session.
 fn image_to_in<'a>(
-    logs: &'a [Source],
+    logs: &'a [LogRow],
     endpoint: &Address,
     session: i32,
     stream: i32,
-) -> Option<&'a Source>
+) -> Option<&'a LogRow>
     ensures { option_copied result ≡ find (is_image_at (endpoint_shape endpoint.now) session stream) logs.now }
 {
     for log in logs {
@@ -78,10 +78,10 @@ pub(crate) struct Beside<'a> {
     pub(crate) numbers: &'a [u64],
 }
 
-impl Test<Source> for Beside<'_> {
+impl Test<LogRow> for Beside<'_> {
     ghost keeps = { λ test log. stays_beside test.numbers.now log };
 
-    fn keeps(&self, log: &Source) -> bool {
+    fn keeps(&self, log: &LogRow) -> bool {
         !is_image_of(log, self.numbers)
     }
 }
@@ -95,14 +95,14 @@ impl Streams {
     }
 
     /// The image of a publisher that sends to the channel's endpoint on that stream, with that session.
-    pub fn image_at(&self, channel: &Channel, session: i32, stream: i32) -> Option<&Source>
+    pub fn image_at(&self, channel: &Channel, session: i32, stream: i32) -> Option<&LogRow>
         ensures { option_copied result ≡ image_at self.now channel.now session stream }
     {
         image_in(self.sources.as_slice(), channel, session, stream)
     }
 
     /// As [`Streams::image_at`], where the place is that endpoint. No channel is made for the search.
-    pub fn image_to(&self, endpoint: &Address, session: i32, stream: i32) -> Option<&Source>
+    pub fn image_to(&self, endpoint: &Address, session: i32, stream: i32) -> Option<&LogRow>
         ensures { option_copied result ≡ image_at self.now (endpoint_shape endpoint.now) session stream }
     {
         image_to_in(self.sources.as_slice(), endpoint, session, stream)
@@ -117,10 +117,10 @@ impl Streams {
     }
 
     /// The row of an image that would be made under this number, at this place.
-    pub fn image(&self, number: u64, wanted: &ImageWanted, place: u64) -> Source
+    pub fn image(&self, number: u64, wanted: &ImageWanted, place: u64) -> LogRow
         ensures { result ≡ image_of self.now number wanted.now place }
     {
-        Source {
+        LogRow {
             number,
             channel: wanted.channel.copy(),
             stream: wanted.stream,

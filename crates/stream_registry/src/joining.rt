@@ -4,12 +4,12 @@ ghost use Rattle.std.specs.Prelude.{◌≡◌};
 
 use crate::measures::Measures;
 use crate::places::{is_manual, is_same_place};
-use crate::row::Source;
+use crate::row::LogRow;
 use crate::sessions::agrees_with;
 use channel_uri::Channel;
 
 /// Whether others may join the publication.
-fn is_open(log: &Source) -> bool
+fn is_open(log: &LogRow) -> bool
     ensures { result ≡ is_open log.now }
 {
     log.is_published()
@@ -21,7 +21,7 @@ fn is_open(log: &Source) -> bool
 /// Whether others may join the publication, and it is of this place and stream. Most are of another stream, and nothing else
 /// is looked at there.
 #[tactic(auto, unfolding(crate::specs::Joining::is_joinable))]
-fn is_joinable(log: &Source, channel: &Channel, stream: i32) -> bool
+fn is_joinable(log: &LogRow, channel: &Channel, stream: i32) -> bool
     ensures { result ≡ is_joinable channel.now stream log.now }
 {
     log.stream == stream && is_open(log) && is_same_place(&log.channel, channel)
@@ -29,10 +29,10 @@ fn is_joinable(log: &Source, channel: &Channel, stream: i32) -> bool
 
 /// The publication that others of this place and stream join.
 pub(crate) fn joined_at<'a>(
-    logs: &'a [Source],
+    logs: &'a [LogRow],
     channel: &Channel,
     stream: i32,
-) -> Option<&'a Source>
+) -> Option<&'a LogRow>
     ensures { option_copied result ≡ joined_at logs.now channel.now stream }
 {
     for log in logs {
@@ -45,7 +45,7 @@ pub(crate) fn joined_at<'a>(
 
 /// Whether the channel says something else of the log or of the session.
 #[tactic(auto, unfolding(crate::specs::Joining::contradicts))]
-pub(crate) fn contradicts(defaults: Measures, channel: &Channel, log: &Source) -> bool
+pub(crate) fn contradicts(defaults: Measures, channel: &Channel, log: &LogRow) -> bool
     ensures { result ≡ contradicts defaults channel.now log.now }
 {
     !defaults.with_those_of(channel).is_same(log.measures)

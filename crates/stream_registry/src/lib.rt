@@ -36,7 +36,7 @@ pub use laws::{
 pub use lingering::{LogPlace, is_closing, is_image_of};
 pub use measures::Measures;
 pub use pairs::{Pair, fits, is_allowed, is_ever_allowed, reads};
-pub use row::{Origin, Registration, Source, Subscription};
+pub use row::{LogRow, Origin, Registration, Subscription};
 pub use streams::Streams;
 pub use wanted::{Adding, ImageWanted, Wanted};
 pub use wish::Wish;

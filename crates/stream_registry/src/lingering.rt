@@ -3,7 +3,7 @@ ghost use Rattle.std.specs.List.{list_any};
 ghost use Rattle.stream_registry.specs.Rest.{RestsBeside, settled_where};
 ghost use Rattle.std.specs.Prelude.{◌≡◌, All, IfOk, true};
 
-use crate::row::{Registration, Source};
+use crate::row::{LogRow, Registration};
 use crate::streams::Streams;
 use byte_strings::Items;
 use rows::{Change, Test};
@@ -39,7 +39,7 @@ fn is_used(registrations: &[Registration], source: u64) -> bool
 }
 
 /// Lets the log linger where nobody is registered with it; an image never does.
-fn settle_one(log: &mut Source, registrations: &[Registration], now: u64)
+fn settle_one(log: &mut LogRow, registrations: &[Registration], now: u64)
     ensures { log.new ≡ settled_one registrations.now now log.old }
 {
     if !is_used(registrations, log.number) {
@@ -54,10 +54,10 @@ pub(crate) struct Settling<'a> {
     pub(crate) now: u64,
 }
 
-impl Change<Source> for Settling<'_> {
+impl Change<LogRow> for Settling<'_> {
     ghost changed = { λ change log. settled_one change.registrations.now change.now log };
 
-    fn change(&self, log: &mut Source) {
+    fn change(&self, log: &mut LogRow) {
         settle_one(log, self.registrations, self.now);
     }
 }
@@ -70,10 +70,10 @@ pub(crate) struct SettlingOne<'a> {
     pub(crate) now: u64,
 }
 
-impl Change<Source> for SettlingOne<'_> {
+impl Change<LogRow> for SettlingOne<'_> {
     ghost changed = { λ change log. settled_where change.source change.registrations.now change.now log };
 
-    fn change(&self, log: &mut Source) {
+    fn change(&self, log: &mut LogRow) {
         if log.number == self.source {
             settle_one(log, self.registrations, self.now);
         }
@@ -81,7 +81,7 @@ impl Change<Source> for SettlingOne<'_> {
 }
 
 /// Whether the log lingers for longer than it may at `now`. No image does.
-pub fn is_past(log: &Source, now: u64) -> bool
+pub fn is_past(log: &LogRow, now: u64) -> bool
     ensures { result ≡ is_past now log.now }
 {
     match log.lingering_since() {
@@ -103,14 +103,14 @@ fn is_named(numbers: &[u64], number: u64) -> bool
 }
 
 /// Whether the log is the image of one of these numbers.
-pub fn is_image_of(log: &Source, numbers: &[u64]) -> bool
+pub fn is_image_of(log: &LogRow, numbers: &[u64]) -> bool
     ensures { result ≡ is_image_of numbers.now log.now }
 {
     !log.is_published() && is_named(numbers, log.number)
 }
 
 /// Whether the log closes at `now`, where these images are silent.
-pub fn is_closing(log: &Source, now: u64, silent: &[u64]) -> bool
+pub fn is_closing(log: &LogRow, now: u64, silent: &[u64]) -> bool
     ensures { result ≡ is_closing now silent.now log.now }
 {
     is_past(log, now) || is_image_of(log, silent)
@@ -123,10 +123,10 @@ pub(crate) struct StaysLive<'a> {
     pub(crate) silent: &'a [u64],
 }
 
-impl Test<Source> for StaysLive<'_> {
+impl Test<LogRow> for StaysLive<'_> {
     ghost keeps = { λ test log. stays_live test.now test.silent.now log };
 
-    fn keeps(&self, log: &Source) -> bool {
+    fn keeps(&self, log: &LogRow) -> bool {
         !is_closing(log, self.now, self.silent)
     }
 }

@@ -4,7 +4,7 @@ ghost use Rattle.stream_registry.specs.LogPages.{fits, free_place, holds_some, i
 ghost use Rattle.std.specs.List.{list_any};
 ghost use Rattle.std.specs.Prelude.{◌≡◌, ◌+◌, ◌-◌, ◌^◌, min, nat_le, not};
 
-use crate::row::Source;
+use crate::row::LogRow;
 use crate::streams::Streams;
 use crate::wanted::Wanted;
 
@@ -19,21 +19,21 @@ pub(crate) fn pages_of(term_length: u32) -> u64
 }
 
 /// How many pages this log has.
-fn log_pages(log: &Source) -> u64
+fn log_pages(log: &LogRow) -> u64
     ensures { result ≡ log_pages log.now }
 {
     pages_of(log.measures.term_length)
 }
 
 /// The page after the log's last one, or the greatest number where that is too great.
-fn end_of(log: &Source) -> u64
+fn end_of(log: &LogRow) -> u64
     ensures { result ≡ min (log.now.place + log_pages log.now) (2 ^ 64 - 1) }
 {
     log.place.saturating_add(log_pages(log))
 }
 
 /// Whether the log holds one of so many pages from `place` on.
-fn holds_some(log: &Source, pages: u64, place: u64) -> bool
+fn holds_some(log: &LogRow, pages: u64, place: u64) -> bool
     ensures { result ≡ holds_some pages place log.now }
 {
     let held = log_pages(log);
@@ -45,7 +45,7 @@ fn holds_some(log: &Source, pages: u64, place: u64) -> bool
 }
 
 /// Whether none of the logs holds one of them.
-fn are_free(logs: &[Source], pages: u64, place: u64) -> bool
+fn are_free(logs: &[LogRow], pages: u64, place: u64) -> bool
     ensures { result ≡ not (list_any (holds_some pages place) logs.now) }
 {
     for log in logs {
@@ -65,7 +65,7 @@ fn are_within(arena_pages: u32, pages: u64, place: u64) -> bool
 }
 
 /// Whether a log of so many pages can lie there.
-fn fits(logs: &[Source], arena_pages: u32, pages: u64, place: u64) -> bool
+fn fits(logs: &[LogRow], arena_pages: u32, pages: u64, place: u64) -> bool
     ensures { result ≡ fits logs.now arena_pages pages place }
 {
     are_within(arena_pages, pages, place) && are_free(logs, pages, place)

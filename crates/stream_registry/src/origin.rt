@@ -1,7 +1,7 @@
 ghost use Rattle.stream_registry.specs.Origins.{address_of, begins_at, is_exclusive, is_of_kind, is_published, left_by, lingering_since};
 ghost use Rattle.std.specs.Prelude.{◌≡◌};
 
-use crate::row::{Origin, Source};
+use crate::row::{LogRow, Origin};
 use channel_uri::Address;
 
 impl Origin {
@@ -30,7 +30,7 @@ impl Origin {
     }
 }
 
-impl Source {
+impl LogRow {
     /// Whether clients of this driver publish there; else it is an image.
     pub fn is_published(&self) -> bool
         ensures { result ≡ is_published self.now }

@@ -6,7 +6,7 @@ ghost use Rattle.channel_uri.specs.Parameters.{stated_session_of};
 ghost use Rattle.std.specs.Prelude.{◌≡◌, ◌&&◌};
 
 use crate::places::{is_ipc, is_same_place, is_udp};
-use crate::row::Source;
+use crate::row::LogRow;
 use crate::sessions::agrees_with;
 use crate::wish::Wish;
 use channel_uri::Channel;
@@ -36,7 +36,7 @@ fn reaches_published(channel: &Channel, published: &Channel) -> bool
 
 /// Whether the channel reaches the log: a publication as above, and one of an endpoint the images of what is sent to it.
 #[tactic(auto, unfolding(crate::specs::Pairs::reaches))]
-fn reaches(channel: &Channel, log: &Source) -> bool
+fn reaches(channel: &Channel, log: &LogRow) -> bool
     ensures { result ≡ reaches channel.now log.now }
 {
     if log.is_published() {
@@ -47,7 +47,7 @@ fn reaches(channel: &Channel, log: &Source) -> bool
 }
 
 /// Whether the channel reaches the log, and states its session or none.
-fn is_met_by(log: &Source, channel: &Channel) -> bool
+fn is_met_by(log: &LogRow, channel: &Channel) -> bool
     ensures { result ≡ (reaches channel.now log.now && agrees_with log.now.session (stated_session_of channel.now)) }
 {
     reaches(channel, log) && agrees_with(log.session, channel.session_id())
@@ -57,7 +57,7 @@ fn is_met_by(log: &Source, channel: &Channel) -> bool
 /// not looked at.
 #[inline(always)]
 #[tactic(auto, unfolding(crate::specs::Pairs::fits))]
-pub fn fits(log: &Source, wish: &Wish<'_>) -> bool
+pub fn fits(log: &LogRow, wish: &Wish<'_>) -> bool
     ensures { result ≡ fits log.now (row_of wish.now) }
 {
     log.stream == wish.stream && is_met_by(log, wish.channel)
@@ -86,7 +86,7 @@ pub fn reads(
     clients: &Clients,
     policy: &Standing<'_>,
     epoch: u64,
-    log: &Source,
+    log: &LogRow,
     wish: &Wish<'_>,
 ) -> bool
     ensures { result ≡ is_pair clients.now.rows policy.now epoch log.now (row_of wish.now) }

@@ -25,7 +25,7 @@ pub enum Origin {
 
 /// A log that is live: a publication, which all that are registered with it share, or an image.
 #[derive(Debug, Drop)]
-pub struct Source {
+pub struct LogRow {
     /// The number by which the log is known: of a publication, the registration number of the ADD that made it.
     pub number: u64,
     /// The channel of that ADD; of an image, the one that names the endpoint to which its publisher sends.
@@ -67,9 +67,9 @@ pub struct Subscription {
     pub stream: i32,
 }
 
-impl Twin for Source {
-    fn twin(&self) -> Source {
-        Source {
+impl Twin for LogRow {
+    fn twin(&self) -> LogRow {
+        LogRow {
             number: self.number,
             channel: self.channel.copy(),
             stream: self.stream,
@@ -81,7 +81,7 @@ impl Twin for Source {
         }
     }
 
-    fn set_from(&mut self, other: &Source) {
+    fn set_from(&mut self, other: &LogRow) {
         self.number = other.number;
         self.channel.set_from(&other.channel);
         self.stream = other.stream;

@@ -3,7 +3,7 @@ ghost use Rattle.std.specs.List.{list_any};
 ghost use Rattle.std.specs.Prelude.{◌≡◌};
 
 use crate::places::is_same_media;
-use crate::row::Source;
+use crate::row::LogRow;
 use channel_uri::Media;
 
 /// The session id after this one; the least comes after the greatest.
@@ -14,14 +14,14 @@ pub(crate) fn after(session: i32) -> i32
 }
 
 /// Whether it is a publication of this session. An image's session is its publisher's, and takes none of ours.
-fn has_session(log: &Source, session: i32) -> bool
+fn has_session(log: &LogRow, session: i32) -> bool
     ensures { result ≡ has_session session log.now }
 {
     log.is_published() && log.session == session
 }
 
 /// Whether a live publication has this session.
-fn is_taken(logs: &[Source], session: i32) -> bool
+fn is_taken(logs: &[LogRow], session: i32) -> bool
     ensures { result ≡ is_taken logs.now session }
 {
     logs.iter().any(|log| has_session(log, session))
@@ -29,7 +29,7 @@ fn is_taken(logs: &[Source], session: i32) -> bool
 
 /// The first session from this one on that no live publication has.
 #[tactic(auto, unfolding(crate::specs::Sessions::free_session))]
-pub(crate) fn free_session(logs: &[Source], first: i32) -> i32
+pub(crate) fn free_session(logs: &[LogRow], first: i32) -> i32
     ensures { result ≡ free_session logs.now first }
 {
     let mut session = first;
@@ -54,14 +54,14 @@ pub(crate) fn agrees_with(session: i32, stated: Option<i32>) -> bool
 
 /// Whether the publication has the session, on this medium and stream.
 #[tactic(auto, unfolding(crate::specs::Sessions::has_session_at))]
-fn has_session_at(log: &Source, media: Media, stream: i32, session: i32) -> bool
+fn has_session_at(log: &LogRow, media: Media, stream: i32, session: i32) -> bool
     ensures { result ≡ has_session_at media stream session log.now }
 {
     is_same_media(log.channel.media(), media) && log.stream == stream && has_session(log, session)
 }
 
 /// Whether a publication has the session, on this medium and stream.
-fn is_used_at(logs: &[Source], media: Media, stream: i32, session: i32) -> bool
+fn is_used_at(logs: &[LogRow], media: Media, stream: i32, session: i32) -> bool
     ensures { result ≡ list_any (has_session_at media stream session) logs.now }
 {
     for log in logs {
@@ -74,7 +74,7 @@ fn is_used_at(logs: &[Source], media: Media, stream: i32, session: i32) -> bool
 
 /// Whether a live publication of this medium and stream has the session that is stated.
 pub(crate) fn is_stated_again(
-    logs: &[Source],
+    logs: &[LogRow],
     media: Media,
     stream: i32,
     stated: Option<i32>,

@@ -7,7 +7,7 @@ ghost use Rattle.std.specs.Prelude.{◌≡◌, ◌≤◌, ◌<◌, ◌++◌, ◌
 
 use crate::images::Beside;
 use crate::lingering::{Settling, SettlingOne, StaysLive};
-use crate::row::{Registration, Source};
+use crate::row::{LogRow, Registration};
 use rows::Rows;
 use std::alloc::{AllocError, Global};
 use std::marker::Model;
@@ -15,17 +15,17 @@ use std::marker::Model;
 /// The live logs, at most 256 publications and 512 images, in room that is there from the beginning.
 #[derive(Debug, Drop)]
 pub(crate) struct Sources {
-    rows: Rows<Source, 768>,
+    rows: Rows<LogRow, 768>,
     /// How many of them are publications.
     published: usize,
 }
 
 impl Model for Sources {
-    ghost use Rattle.stream_registry.specs.declared.row.Source.{Source};
+    ghost use Rattle.stream_registry.specs.declared.row.LogRow.{LogRow};
     ghost use Rattle.stream_registry.specs.Few.{AreCounted};
     ghost use Rattle.std.specs.Prelude.{List};
 
-    ghost Value = { List Source };
+    ghost Value = { List LogRow };
 
     ghost view = { λ sources. sources.rows };
 
@@ -33,7 +33,7 @@ impl Model for Sources {
 }
 
 /// How many of the logs are publications.
-fn publications_among(logs: &[Source]) -> usize
+fn publications_among(logs: &[LogRow]) -> usize
     ensures { result ≡ length (filter is_published logs.now) }
 {
     logs.iter().filter(|log| log.is_published()).count()
@@ -61,7 +61,7 @@ impl Sources {
         })
     }
 
-    pub(crate) fn as_slice(&self) -> &[Source]
+    pub(crate) fn as_slice(&self) -> &[LogRow]
         ensures value { result.now ≡ self.now }
         ensures few { length result.now ≤ 768 }
         ensures kinds { AreFew result.now }
@@ -84,7 +84,7 @@ impl Sources {
     }
 
     /// Puts a publication after the others.
-    pub(crate) fn push_publication(&mut self, log: Source)
+    pub(crate) fn push_publication(&mut self, log: LogRow)
         requires kind { is_published log ≡ true }
         requires room { length (filter is_published self.old) < 256 }
         ensures { self.new ≡ self.old ++ log ∷ [] }
@@ -94,7 +94,7 @@ impl Sources {
     }
 
     /// Puts an image after the others.
-    pub(crate) fn push_image(&mut self, log: Source)
+    pub(crate) fn push_image(&mut self, log: LogRow)
         requires kind { is_remote log ≡ true }
         requires room { length (filter is_remote self.old) < 512 }
         ensures { self.new ≡ self.old ++ log ∷ [] }

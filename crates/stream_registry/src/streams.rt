@@ -2,7 +2,7 @@ ghost use Rattle.stream_registry.specs.Few.{AreFew};
 ghost use Rattle.std.specs.Prelude.{◌≡◌, ◌≤◌, IfOk, length};
 
 use crate::measures::Measures;
-use crate::row::{Registration, Source, Subscription};
+use crate::row::{LogRow, Registration, Subscription};
 use crate::sources::Sources;
 use rows::Rows;
 use std::alloc::{AllocError, Global};
@@ -75,7 +75,7 @@ impl Streams {
     }
 
     /// The live logs, those that linger too, by their numbers.
-    pub fn sources(&self) -> &[Source]
+    pub fn sources(&self) -> &[LogRow]
         ensures value { result.now ≡ self.now.sources }
         ensures few { length result.now ≤ 768 }
         ensures kinds { AreFew result.now }

@@ -6,7 +6,7 @@ use channel_uri::{Channel, Pattern, UriError};
 use client_registry::Clients;
 use policy_core::{Act, Acts, Policy, Principals, Rule, Standing};
 use std::alloc::{AllocError, Global};
-use stream_registry::{Pair, Source, Streams, Wish, reads};
+use stream_registry::{LogRow, Pair, Streams, Wish, reads};
 
 /// What is asked where two clients are there, of principals 1 and 2.
 #[derive(Clone, Copy)]
@@ -75,7 +75,7 @@ fn push_pairs(
     streams: &Streams,
     clients: &Clients,
     policy: &Standing<'_>,
-    log: &Source,
+    log: &LogRow,
 ) -> Result<(), AllocError> {
     for subscription in streams.subscriptions() {
         if reads(clients, policy, 1, log, &subscription.wish()) {

@@ -1,6 +1,6 @@
 use Rattle.std.proofs.Common.{ℕ, List, get_or, set, ap, ◌∙◌, add-one, arith}
 use Rattle.log_readers.specs.Readers.{noted_at}
-use Rattle.stream_registry.specs.declared.row.Source.{Source}
+use Rattle.stream_registry.specs.declared.row.LogRow.{LogRow}
 use Rattle.stream_registry.specs.Wish.{row_of}
 use Rattle.log_readers.proofs.NoteLemmas.{noted_read, noted_written}
 use Rattle.log_readers.proofs.readers.note_all.Goals as goal
@@ -23,5 +23,5 @@ loop-at-preserved c =
     c.index-slots-at.result c.note_at.new.numbers c.requires.same c.loop-at-test.true
     (c.note_at.ensures
     ∙ ap (noted_at (row_of c.args.wish.now) c.index-logs-at.result) read
-    ∙ ap (λ (log : Source). noted_at (row_of c.args.wish.now) log (get_or c.args.slots.now c.loop-at.at c.index-slots-at.result))
+    ∙ ap (λ (log : LogRow). noted_at (row_of c.args.wish.now) log (get_or c.args.slots.now c.loop-at.at c.index-slots-at.result))
     c.index-logs-at.is))

@@ -1,6 +1,6 @@
 use Rattle.std.proofs.Common.{ℕ, List, get_or, set, ap, ◌∙◌, add-one}
 use Rattle.log_readers.specs.Readers.{forgotten_at}
-use Rattle.stream_registry.specs.declared.row.Source.{Source}
+use Rattle.stream_registry.specs.declared.row.LogRow.{LogRow}
 use Rattle.stream_registry.specs.Wish.{row_of}
 use Rattle.log_readers.proofs.RowLemmas.{forgotten_read, forgotten_written}
 use Rattle.log_readers.proofs.subscribing.forget_all.Goals as goal
@@ -16,5 +16,5 @@ loop-at-preserved c =
     c.index-slots-at.result c.forget_at.new.numbers c.requires c.loop-at-test.true
     (c.forget_at.ensures
     ∙ ap (forgotten_at (row_of c.args.wish.now) c.index-logs-at.result) read
-    ∙ ap (λ (log : Source). forgotten_at (row_of c.args.wish.now) log (get_or c.args.slots.now c.loop-at.at c.index-slots-at.result))
+    ∙ ap (λ (log : LogRow). forgotten_at (row_of c.args.wish.now) log (get_or c.args.slots.now c.loop-at.at c.index-slots-at.result))
     c.index-logs-at.is))

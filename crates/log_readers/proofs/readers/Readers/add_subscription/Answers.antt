@@ -1,7 +1,7 @@
 use Rattle.std.proofs.Common.{◌<◌, ℕ, List, cond, length, sym, ap, ◌∙◌}
 use Rattle.std.proofs.lemmas.List.Elements.{All-same}
 use Rattle.log_readers.specs.Readers.{all_readers, noted}
-use Rattle.stream_registry.specs.declared.row.Source.{Source}
+use Rattle.stream_registry.specs.declared.row.LogRow.{LogRow}
 use Rattle.stream_registry.specs.Pairs.{is_allowed}
 use Rattle.stream_registry.specs.Wish.{row_of}
 use Rattle.log_readers.proofs.ReaderLemmas.{as_many_as_logs, has_room_for_number, subscribed_readers}
@@ -11,7 +11,7 @@ pub note-requires-clause-same : goal.note-requires-clause-same
 note-requires-clause-same c =
     ap (λ (readers : List (List ℕ)). length readers) c.requires.exact
     ∙ as_many_as_logs c.args.clients.now.rows c.args.policy.now c.args.epoch c.args.streams.now
-    ∙ ap (λ (logs : List Source). length logs) (sym c.sources.ensures.value)
+    ∙ ap (λ (logs : List LogRow). length logs) (sym c.sources.ensures.value)
 
 pub note-requires-clause-room : goal.note-requires-clause-room
 note-requires-clause-room c =
@@ -22,7 +22,7 @@ note-requires-clause-room c =
 pub returns : goal.returns
 returns c =
     c.note.ensures
-    ∙ ap (λ (logs : List Source).
+    ∙ ap (λ (logs : List LogRow).
     cond (is_allowed c.args.clients.now.rows c.args.policy.now c.args.epoch (row_of c.args.wish.now))
     (noted (row_of c.args.wish.now) logs c.args.self.now) c.args.self.now) c.sources.ensures.value
     ∙ ap (λ (readers : List (List ℕ)).

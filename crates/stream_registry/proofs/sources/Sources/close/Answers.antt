@@ -1,5 +1,5 @@
 use Rattle.std.proofs.Common.{List, length, filter, sym, subst, ap, ◌∙◌}
-use Rattle.stream_registry.specs.declared.row.Source.{Source}
+use Rattle.stream_registry.specs.declared.row.LogRow.{LogRow}
 use Rattle.stream_registry.specs.Few.{AreFew}
 use Rattle.stream_registry.specs.Lingering.{stays_live}
 use Rattle.stream_registry.specs.Origins.{is_published}
@@ -12,5 +12,5 @@ invariant_of-self c = record {
       subst AreFew (sym c.retain.ensures)
       (kept_few (stays_live c.args.now c.args.silent.now) c.self.inside.rows c.self.invariant.few);
   count =
-      c.publications_among-self-inside.ensures ∙ ap (λ (logs : List Source). length (filter is_published logs)) c.as_slice.ensures.value;
+      c.publications_among-self-inside.ensures ∙ ap (λ (logs : List LogRow). length (filter is_published logs)) c.as_slice.ensures.value;
 }

@@ -1,5 +1,5 @@
 use Rattle.std.proofs.Common.{◌≡◌, ◌-◌, List, length, filter, ap, ◌∙◌, arith}
-use Rattle.stream_registry.specs.declared.row.Source.{Source}
+use Rattle.stream_registry.specs.declared.row.LogRow.{LogRow}
 use Rattle.stream_registry.specs.Origins.{is_remote}
 use Rattle.stream_registry.proofs.FewLemmas.{all_of}
 use Rattle.stream_registry.proofs.sources.Sources.images.Goals as goal
@@ -15,4 +15,4 @@ returns c =
     let all = all_of c.self.inside.rows in
     let images : c.len.result - c.self.inside.published ≡ length (filter is_remote c.self.inside.rows) =
     omega (arith, all, c.len.ensures.value, c.self.invariant.count) in
-    images ∙ ap (λ (logs : List Source). length (filter is_remote logs)) c.self.view_is
+    images ∙ ap (λ (logs : List LogRow). length (filter is_remote logs)) c.self.view_is

@@ -1,5 +1,5 @@
 use Rattle.std.proofs.Common.{List, length, filter, sym, subst, ap, ◌∙◌}
-use Rattle.stream_registry.specs.declared.row.Source.{Source}
+use Rattle.stream_registry.specs.declared.row.LogRow.{LogRow}
 use Rattle.stream_registry.specs.Few.{AreFew}
 use Rattle.stream_registry.specs.Origins.{is_published}
 use Rattle.stream_registry.proofs.FewLemmas.{where_few, where_count}
@@ -13,5 +13,5 @@ invariant_of-self c = record {
   count =
       c.self.invariant.count
       ∙ sym (where_count c.args.source c.args.registrations.now c.args.now c.self.inside.rows)
-      ∙ ap (λ (logs : List Source). length (filter is_published logs)) (sym c.change.ensures);
+      ∙ ap (λ (logs : List LogRow). length (filter is_published logs)) (sym c.change.ensures);
 }

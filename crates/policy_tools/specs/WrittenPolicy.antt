@@ -5,7 +5,7 @@ use Rattle.channel_uri.specs.Pattern.{pattern_of}
 use Rattle.policy_core.specs.RuleList.{Rules}
 use Rattle.policy_core.specs.declared.rule.Rule.{Rule}
 use Rattle.policy_text.specs.Members.{text_at}
-use Rattle.policy_tools.specs.declared.source.Words.{Words}
+use Rattle.policy_tools.specs.declared.written_policy.Words.{Words}
 
 -- a policy, and what its file has of each rule in words: the pattern, and the principal
 pub record Sourced : Type 0 where

@@ -1,8 +1,8 @@
 use Rattle.std.proofs.Common.{◌≡◌, Some, slice_get, subst, sym, ◌∙◌, ap}
-use Rattle.policy_tools.specs.Source.{Sourced}
 use Rattle.channel_uri.specs.Pattern.{pattern_of}
-use Rattle.policy_tools.proofs.SourceLemmas.{pattern_stands}
-use Rattle.policy_tools.proofs.source.Source.text.Goals as goal
+use Rattle.policy_tools.specs.WrittenPolicy.{Sourced}
+use Rattle.policy_tools.proofs.WrittenPolicyLemmas.{pattern_stands}
+use Rattle.policy_tools.proofs.written_policy.WrittenPolicy.text.Goals as goal
 
 pub returns : goal.returns
 returns c = λ rule stands.

@@ -2,7 +2,7 @@ ghost use Rattle.channel_uri.specs.Pattern.{pattern_of};
 ghost use Rattle.policy_core.specs.Moments.{at};
 ghost use Rattle.policy_query.specs.Document.{document_of, policy_in};
 ghost use Rattle.policy_text.specs.Fault.{Gives};
-ghost use Rattle.policy_tools.specs.Source.{text_in, words_at, words_in, words_of};
+ghost use Rattle.policy_tools.specs.WrittenPolicy.{text_in, words_at, words_in, words_of};
 ghost use Rattle.std.specs.Option.{option_map};
 ghost use Rattle.std.specs.Prelude.{◌≡◌, ◌≤◌, ◌<◌, Ok, IfOk, length, slice_get, Some};
 ghost use Rattle.toml.specs.Data.{as_table, get_member};
@@ -28,13 +28,13 @@ pub(crate) struct Words {
 
 /// A policy, with the words of its rules as its file has them.
 #[derive(Debug, Drop)]
-pub struct Source {
+pub struct WrittenPolicy {
     policy: Policy,
     words: Vec<Words>,
 }
 
-impl Model for Source {
-    ghost use Rattle.policy_tools.specs.Source.{AreWords, Sourced};
+impl Model for WrittenPolicy {
+    ghost use Rattle.policy_tools.specs.WrittenPolicy.{AreWords, Sourced};
 
     ghost Value = { Sourced };
 
@@ -93,7 +93,7 @@ fn words_in(alloc: Global, table: &Table) -> Result<Vec<Words>, AllocError>
     }
 }
 
-impl Source {
+impl WrittenPolicy {
     /// The policy that a document is, with its words.
     ///
     /// # Errors
@@ -103,7 +103,7 @@ impl Source {
         alloc: Global,
         document: &Document<'_>,
         names: &Names,
-    ) -> Result<Source, PolicyFault>
+    ) -> Result<WrittenPolicy, PolicyFault>
         ensures exact { Gives (λ source. source.policy) result (policy_in names.now document.now) }
         ensures words { IfOk result (λ source. source.words ≡ words_at (document_of document.now)) }
     {
@@ -112,7 +112,7 @@ impl Source {
         };
         let policy = policy_from(alloc, table, names)?;
         let words = words_in(alloc, table)?;
-        Ok(Source { policy, words })
+        Ok(WrittenPolicy { policy, words })
     }
 
     /// The policy becomes what it is at this moment, for good: rules that do not stand then speak of nothing.

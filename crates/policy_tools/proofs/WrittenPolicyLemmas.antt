@@ -19,8 +19,8 @@ use Rattle.policy_text.specs.declared.version.Version.{Version}
 use Rattle.policy_text.specs.Fields.{is_rule_key, acts_of, allow_of, channel_from, channel_of, name_of, pattern_from, moments_of, principal_of, rule_of, stream_of}
 use Rattle.policy_text.specs.Members.{all_items, all_keys, items_len, text_at}
 use Rattle.policy_text.specs.Names.{Known}
-use Rattle.policy_tools.specs.declared.source.Words.{Words}
-use Rattle.policy_tools.specs.Source.{AreWords, rule_words, text_in, words_from, words_in, words_of, words_under}
+use Rattle.policy_tools.specs.declared.written_policy.Words.{Words}
+use Rattle.policy_tools.specs.WrittenPolicy.{AreWords, rule_words, text_in, words_from, words_in, words_of, words_under}
 
 -- what came first is there, where there is an answer
 bound : {A B : Type 0} (first : Result A PolicyFault) (next : A → Result B PolicyFault) (b : B) → (first >>= next) ≡ Ok b → (a : A) × (first ≡ Ok a) × (next a ≡ Ok b)

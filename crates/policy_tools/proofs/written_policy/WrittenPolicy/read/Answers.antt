@@ -1,9 +1,9 @@
+use Rattle.policy_tools.specs.declared.written_policy.Words.{Words}
+use Rattle.policy_tools.specs.WrittenPolicy.{AreWords, words_in}
+use Rattle.policy_tools.proofs.WrittenPolicyLemmas.{document_words}
+use Rattle.policy_tools.proofs.written_policy.WrittenPolicy.read.Goals as goal
 use Rattle.std.proofs.Common.{sym, subst, List}
 use Rattle.toml.specs.View.{table_view}
-use Rattle.policy_tools.specs.declared.source.Words.{Words}
-use Rattle.policy_tools.specs.Source.{AreWords, words_in}
-use Rattle.policy_tools.proofs.SourceLemmas.{document_words}
-use Rattle.policy_tools.proofs.source.Source.read.Goals as goal
 
 pub invariant_of-result : goal.invariant_of-result
 invariant_of-result c =

@@ -1,7 +1,7 @@
+use Rattle.policy_tools.specs.WrittenPolicy.{words_of}
+use Rattle.policy_tools.proofs.written_policy.words_of.Given as goal
 use Rattle.std.proofs.Common.{◌≡◌, ◌++◌, drop}
 use Rattle.toml.specs.View.{items_view}
-use Rattle.policy_tools.specs.Source.{words_of}
-use Rattle.policy_tools.proofs.source.words_of.Given as goal
 
 -- the words so far, with those of the items that are left, are the words of all items
 abbrev pub invariant-loop-value : goal.invariant-loop-value
