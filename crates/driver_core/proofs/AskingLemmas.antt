@@ -1,25 +1,25 @@
 -- What a client's command tells, and what is decided on it, is the same before the client was heard of.
 use Rattle.std.proofs.Common.{◌≡◌, ℕ, ℤ, max, Bool, true, false, not, ◌&&◌, nat_le, List, length, [], ◌∷◌, Option, Some, None, Result, Ok, Err, if◌then◌else◌, refl, ap, ◌∙◌}
-use Rattle.driver_core.specs.declared.refusal.Refusal.{Refusal}
-use Rattle.driver_core.specs.declared.refusal.Refusal.TheVariants.{UnknownPublication, UnknownCounter, Denied, Full}
-use Rattle.driver_core.specs.declared.replies.Reply.{Reply}
+use Rattle.driver_core.specs.declared.state.refusal.Refusal.{Refusal}
+use Rattle.driver_core.specs.declared.state.refusal.Refusal.TheVariants.{UnknownPublication, UnknownCounter, Denied, Full}
+use Rattle.driver_core.specs.declared.state.replies.Reply.{Reply}
 use Rattle.driver_core.specs.Closing.{keep_alive}
 use Rattle.driver_core.specs.Commands.{at_request, body_change, heard, keeps_pairs, requested}
 use Rattle.driver_core.specs.Counting.{add_counter, counted, counter_decision, has_room_for_counter, set_counter, valued, remove_counter, uncounted}
 use Rattle.driver_core.specs.Deciding.{decision_by}
 use Rattle.driver_core.specs.Directing.{add_destination, directed, directed_as, directing_by, directing_of, directing_on, has_room_for_sole, recalled, recalled_as, recalling_by, recalling_of, recalling_on, remove_destination, log_with, own_log, target_address, target_at, target_of, target_on}
-use Rattle.driver_core.specs.declared.directing.Directed.{Directed}
-use Rattle.driver_core.specs.declared.directing.Target.{Target}
+use Rattle.driver_core.specs.declared.rules.directing.Directed.{Directed}
+use Rattle.driver_core.specs.declared.rules.directing.Target.{Target}
 use Rattle.driver_core.specs.Draft.{Draft, refused, replied, told}
 use Rattle.driver_core.specs.LogRequests.{registration_at}
 use Rattle.driver_core.specs.Pairs.{is_within_pairs}
-use Rattle.driver_core.specs.declared.publishing.Granted.{Granted}
-use Rattle.driver_core.specs.declared.refused.Refused.{Refused}
+use Rattle.driver_core.specs.declared.rules.publishing.Granted.{Granted}
+use Rattle.driver_core.specs.declared.state.refused.Refused.{Refused}
 use Rattle.driver_core.specs.Publishing.{granting_of, has_place, has_room_for_publication, publication_decision, publishing_by, publishing_of, with_publication}
 use Rattle.driver_core.specs.Refusing.{decisions_by, denied}
 use Rattle.driver_core.specs.State.{State, at_moment, has_number}
 use Rattle.driver_core.specs.Subscribing.{has_room_for_subscription, subscribing_of, with_subscription}
-use Rattle.driver_core.specs.Told.{told_of}
+use Rattle.driver_core.specs.Report.{report_of}
 use Rattle.driver_core.specs.Unpublishing.{remove_publication, unpublished}
 use Rattle.driver_core.proofs.PairLemmas.{principal_heard, prospects_by}
 use Rattle.channel_uri.specs.declared.address.Address.{Address}
@@ -47,7 +47,7 @@ use Rattle.stream_registry.specs.Leaving.{has_registration}
 
 -- two drafts tell the same
 abbrev pub TellTheSame : Draft → Draft → Type 0
-TellTheSame draft other = told_of draft ≡ told_of other
+TellTheSame draft other = report_of draft ≡ report_of other
 
 either_same : (b : Bool) (draft other draft_too other_too : Draft) → TellTheSame draft draft_too → TellTheSame other other_too →
     TellTheSame (if b then draft else other) (if b then draft_too else other_too)
@@ -113,7 +113,7 @@ destination_added : (s : State) (now handle : ℕ) (client : Client) (correlatio
     (add_destination s client correlation fields)
 unfolding add_destination directing_of
 destination_added s now handle client correlation fields =
-    ap (λ (found : Result Directed Refused). told_of (directed_as (at_request s now handle) client correlation found))
+    ap (λ (found : Result Directed Refused). report_of (directed_as (at_request s now handle) client correlation found))
     (directing_on_same s now handle client fields.registration (denotes fields.channel))
     ∙ directed_same s now handle client correlation (directing_on s client fields.registration (denotes fields.channel))
 
@@ -142,7 +142,7 @@ destination_removed : (s : State) (now handle : ℕ) (client : Client) (correlat
     (remove_destination s client correlation fields)
 unfolding remove_destination recalling_of
 destination_removed s now handle client correlation fields =
-    ap (λ (found : Result Target Refused). told_of (recalled_as (at_request s now handle) client correlation found))
+    ap (λ (found : Result Target Refused). report_of (recalled_as (at_request s now handle) client correlation found))
     (recalling_on_same s now handle client.number fields.registration (denotes fields.channel))
     ∙ recalled_same s now handle client correlation
     (recalling_on s client.number fields.registration (denotes fields.channel))

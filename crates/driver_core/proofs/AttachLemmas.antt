@@ -1,15 +1,15 @@
 -- A client that comes changes no pair, since no subscription is its own yet.
 use Rattle.std.proofs.Common.{◌≡◌, ℕ, All, refl, sym, ap, ◌∙◌}
-use Rattle.driver_core.specs.declared.event.Inputs.{Inputs}
-use Rattle.driver_core.specs.declared.outcome.Response.{Response}
-use Rattle.driver_core.specs.declared.outcome.Response.TheVariants as response
-use Rattle.driver_core.specs.declared.told.Told.{Told}
+use Rattle.driver_core.specs.declared.state.event.Inputs.{Inputs}
+use Rattle.driver_core.specs.declared.state.outcome.Response.{Response}
+use Rattle.driver_core.specs.declared.state.outcome.Response.TheVariants as response
+use Rattle.driver_core.specs.declared.state.report.Report.{Report}
 use Rattle.driver_core.specs.Attaching.{attach, attached}
 use Rattle.driver_core.specs.Draft.{Draft, answered}
 use Rattle.driver_core.specs.Pairs.{pairs_of}
 use Rattle.driver_core.specs.Renewal.{outcome_by, outcome_kept}
 use Rattle.driver_core.specs.State.{State, at_moment}
-use Rattle.driver_core.specs.Told.{told_of}
+use Rattle.driver_core.specs.Report.{report_of}
 use Rattle.driver_core.proofs.EventCases.{attach_cases}
 use Rattle.driver_core.proofs.PairLemmas.{kept}
 use Rattle.log_readers.specs.Numbering.{IsOwned}
@@ -27,8 +27,8 @@ unfolding attached answered at_moment pairs_of
 attached_keeps s now principal owned =
     (admitted_alike s.policy s.epoch s.streams s.clients principal (at_moment s now).moment owned).pairs
 
-pub attach_kept : (s : State) (now principal : ℕ) (inputs : Inputs) (told : Told) →
-    All (IsOwned s.clients.rows) s.streams.subscriptions → told ≡ told_of (attach (at_moment s now) principal) →
+pub attach_kept : (s : State) (now principal : ℕ) (inputs : Inputs) (told : Report) →
+    All (IsOwned s.clients.rows) s.streams.subscriptions → told ≡ report_of (attach (at_moment s now) principal) →
     outcome_by s inputs (attach (at_moment s now) principal) ≡ outcome_kept told
 attach_kept s now principal inputs told owned is =
     kept s inputs (attach (at_moment s now) principal)

@@ -7,8 +7,8 @@ use Rattle.decision_cache.specs.declared.key.Key.{Key}
 use Rattle.decision_cache.specs.Entries.{AddsAtMost, IsSoundAt, key_of}
 use Rattle.driver_core.specs.Cached.{AreCached, IsCached, offer_question, poll_question}
 use Rattle.driver_core.specs.Conduct.{state_after}
-use Rattle.driver_core.specs.declared.event.Event.{Event}
-use Rattle.driver_core.specs.declared.event.Inputs.{Inputs}
+use Rattle.driver_core.specs.declared.state.event.Event.{Event}
+use Rattle.driver_core.specs.declared.state.event.Inputs.{Inputs}
 use Rattle.driver_core.specs.Renewal.{source_at}
 use Rattle.driver_core.specs.State.{State}
 use Rattle.log_readers.specs.Numbering.{Rises, number_of as subscribed_as, registered_as, source_of}
@@ -18,7 +18,7 @@ use Rattle.policy_core.specs.declared.verdict.Verdict.{Verdict}
 use Rattle.policy_core.specs.Moments.{at}
 use Rattle.policy_core.specs.Question.{Question}
 use Rattle.policy_core.specs.Rules.{verdict_of}
-use Rattle.stream_registry.specs.declared.row.Source.{Source}
+use Rattle.stream_registry.specs.declared.row.LogRow.{LogRow}
 use Rattle.stream_registry.specs.declared.row.Registration.{Registration}
 use Rattle.stream_registry.specs.declared.row.Subscription.{Subscription}
 use Rattle.driver_core.proofs.ListLemmas.{contains_none, only_one}
@@ -127,7 +127,7 @@ unique number_of low last (first ∷ rows) row other up has stands same =
 
 -- ---- a verdict that is decided
 
-pub offer_cached : (s : State) (moment principal : ℕ) (registration : Registration) (log : Source) →
+pub offer_cached : (s : State) (moment principal : ℕ) (registration : Registration) (log : LogRow) →
     Rises source_of 0 s.last_number s.streams.sources →
     Rises registered_as 0 s.last_number s.streams.registrations →
     Contains s.streams.registrations registration → Contains s.streams.sources log → log.number ≡ registration.source →
@@ -152,7 +152,7 @@ offer_cached s moment principal registration log sources registered has stands w
           let from : log.number ≡ other.number = with ∙ ap (λ (r : Registration). r.source) is ∙ sym source in
           let same : log ≡ other = unique source_of 0 last s.streams.sources log other sources stands live from in
           ap (λ (r : Registration). verdict_of (at s.given moment) s.epoch (offer_question principal r log)) is
-          ∙ ap (λ (l : Source). verdict_of (at s.given moment) s.epoch (offer_question principal row l)) same;
+          ∙ ap (λ (l : LogRow). verdict_of (at s.given moment) s.epoch (offer_question principal row l)) same;
       poll = λ row there number epoch act. absurd (cc act);
     }
 
@@ -203,7 +203,7 @@ pub found_in : {X : Type 0} (test : X → Bool) (xs : List X) (x : X) → find t
 found_in test [] x found = absurd (cc found)
 found_in test (y ∷ ys) x found = found_first test y x ys (test y) refl (found_in test ys x) found
 
-pub found_log : (logs : List Source) (source : ℕ) (log : Source) → source_at logs source ≡ Some log →
+pub found_log : (logs : List LogRow) (source : ℕ) (log : LogRow) → source_at logs source ≡ Some log →
     Contains logs log × (log.number ≡ source)
 found_log logs source log found =
     let is = found_in _ logs log found in
@@ -212,7 +212,7 @@ found_log logs source log found =
 -- ---- what the policy in force is asked by the cache
 
 pub offer_sound : (s : State) (entries : List (Key × Verdict)) (moment principal : ℕ) (registration : Registration)
-    (log : Source) → AreCached s entries → Contains s.streams.registrations registration →
+    (log : LogRow) → AreCached s entries → Contains s.streams.registrations registration →
     Contains s.streams.sources log → log.number ≡ registration.source →
     IsSoundAt entries s.given s.epoch moment registration.number (offer_question principal registration log)
 offer_sound s entries moment principal registration log cached has stands with = λ verdict there.

@@ -3,7 +3,7 @@ use Rattle.std.proofs.Common.{◌≡◌, ℕ, ◌==◌, Bool, true, false, not, 
 use Rattle.std.specs.Prelude.{◌||◌}
 use Rattle.std.specs.List.{Contains, list_any}
 use Rattle.std.proofs.lemmas.List.Elements.{All-contains, All-contains_itself, All-head, Contains-append_cases, Contains-append_left, Contains-append_right, filter_agree, filter_passes}
-use Rattle.driver_core.specs.declared.outcome.Outcome.{Outcome}
+use Rattle.driver_core.specs.declared.state.outcome.Outcome.{Outcome}
 use Rattle.driver_core.specs.Change.{Change}
 use Rattle.driver_core.specs.Pairs.{is_lacked_by, is_same_pair, lacking, pairs_of}
 use Rattle.driver_core.specs.Renewal.{come_to, gone_from}
@@ -18,7 +18,7 @@ use Rattle.policy_core.specs.RuleList.{Rules}
 use Rattle.stream_registry.specs.Pairs.{pairs_of as pairs_in}
 use Rattle.stream_registry.specs.Streams.{Streams}
 use Rattle.stream_registry.specs.declared.pairs.Pair.{Pair}
-use Rattle.stream_registry.specs.declared.row.Source.{Source}
+use Rattle.stream_registry.specs.declared.row.LogRow.{LogRow}
 use Rattle.stream_registry.specs.Lingering.{place_of}
 use Rattle.stream_registry.specs.Origins.{is_remote}
 
@@ -147,7 +147,7 @@ alike false true false stays comes back = sym (comes refl)
 alike false false true stays comes back = back refl
 alike false false false stays comes back = refl
 
-pub left_is : (before after : List Pair) (log : Source) →
+pub left_is : (before after : List Pair) (log : LogRow) →
     has_left before (lacking before after) (lacking after before) log ≡ has_pair after log
 left_is before after log =
     alike (list_any (is_of_source log.number) (lacking before (lacking before after)))
@@ -173,14 +173,14 @@ lack_none : (pairs : List Pair) → lacking pairs [] ≡ pairs
 lack_none [] = refl
 lack_none (pair ∷ pairs) = ap (λ (rest : List Pair). pair ∷ rest) (lack_none pairs)
 
-closed_step : (remote read comes : Bool) (log : Source) (rest others : List Source) →
+closed_step : (remote read comes : Bool) (log : LogRow) (rest others : List LogRow) →
     cond (remote && not read) (log ∷ rest) rest ≡ [] → (rest ≡ [] → others ≡ []) →
     cond (remote && not (read || comes)) (log ∷ others) others ≡ []
 closed_step true true comes log rest others none step = step none
 closed_step true false comes log rest others none step = absurd (cc none)
 closed_step false read comes log rest others none step = step none
 
-none_closed_by : (pairs come : List Pair) (logs : List Source) → filter (is_unread pairs) logs ≡ [] →
+none_closed_by : (pairs come : List Pair) (logs : List LogRow) → filter (is_unread pairs) logs ≡ [] →
     filter (λ log. is_remote log && not (has_pair pairs log || has_pair come log)) logs ≡ []
 none_closed_by pairs come [] none = refl
 none_closed_by pairs come (log ∷ logs) none =
@@ -189,7 +189,7 @@ none_closed_by pairs come (log ∷ logs) none =
     (none_closed_by pairs come logs)
 
 -- none closes where none is closed and no pair goes
-pub none_closed : (pairs come : List Pair) (logs : List Source) → filter (is_unread pairs) logs ≡ [] →
+pub none_closed : (pairs come : List Pair) (logs : List LogRow) → filter (is_unread pairs) logs ≡ [] →
     map place_of (filter (is_closed_by pairs [] [] come) logs) ≡ []
 none_closed pairs come logs none =
     ap (λ (all : List Pair). map place_of (filter (λ log. is_remote log && not (has_pair all log || has_pair come log)) logs)) (lack_none pairs)
@@ -203,12 +203,12 @@ nothing_closes s change outcome is gone come closes goes none =
     rw (← closed_is s change outcome is gone come, closes, goes)
     (sym (none_closed (pairs_of s) outcome.come s.streams.sources none))
 
-kept_step : (unread : Bool) (log : Source) (rest others logs : List Source) → cond unread (log ∷ rest) rest ≡ [] →
+kept_step : (unread : Bool) (log : LogRow) (rest others logs : List LogRow) → cond unread (log ∷ rest) rest ≡ [] →
     (rest ≡ [] → others ≡ logs) → cond (not unread) (log ∷ others) others ≡ log ∷ logs
 kept_step true log rest others logs none step = absurd (cc none)
-kept_step false log rest others logs none step = ap (λ (more : List Source). log ∷ more) (step none)
+kept_step false log rest others logs none step = ap (λ (more : List LogRow). log ∷ more) (step none)
 
-all_kept : (pairs : List Pair) (logs : List Source) → filter (is_unread pairs) logs ≡ [] → filter (is_kept pairs) logs ≡ logs
+all_kept : (pairs : List Pair) (logs : List LogRow) → filter (is_unread pairs) logs ≡ [] → filter (is_kept pairs) logs ≡ logs
 all_kept pairs [] none = refl
 all_kept pairs (log ∷ logs) none =
     kept_step (is_unread pairs log) log (filter (is_unread pairs) logs) (filter (is_kept pairs) logs) logs none
@@ -219,14 +219,14 @@ pub read_stays : (s : Streams) (clients : List Client) (policy : Rules) (epoch :
     without_unread s clients policy epoch ≡ s
 unfolding without_unread
 read_stays s clients policy epoch read =
-    ap (λ (logs : List Source). record s { sources = logs }) (all_kept (pairs_in s clients policy epoch) s.sources read.all)
+    ap (λ (logs : List LogRow). record s { sources = logs }) (all_kept (pairs_in s clients policy epoch) s.sources read.all)
 
 pub read_registry : (s : State) → AreRead s.streams s.clients.rows s.policy s.epoch → without_unread_from s ≡ s
 unfolding without_unread_from
 read_registry s read =
     ap (λ (streams : Streams). record s { streams = streams }) (read_stays s.streams s.clients.rows s.policy s.epoch read)
 
-none_mapped : (logs : List Source) → map source_of logs ≡ [] → logs ≡ []
+none_mapped : (logs : List LogRow) → map source_of logs ≡ [] → logs ≡ []
 none_mapped [] none = refl
 none_mapped (log ∷ logs) none = absurd (cc none)
 

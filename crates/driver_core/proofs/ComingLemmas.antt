@@ -3,16 +3,16 @@ use Rattle.std.proofs.Common.{arith, ◌≡◌, ℕ, ℤ, ◌+◌, ◌<◌, ◌�
 use Rattle.std.proofs.lemmas.Bool.{eq-eqb, ne_eqb}
 use Rattle.std.proofs.lemmas.List.{append-nil}
 use Rattle.std.specs.List.{flat_map}
-use Rattle.driver_core.specs.declared.event.End.{End}
-use Rattle.driver_core.specs.declared.event.Inputs.{Inputs}
+use Rattle.driver_core.specs.declared.state.event.End.{End}
+use Rattle.driver_core.specs.declared.state.event.Inputs.{Inputs}
 use Rattle.driver_core.specs.Commands.{at_request, heard}
 use Rattle.driver_core.specs.Draft.{Draft, replied, told}
 use Rattle.driver_core.specs.Pairs.{lacking, pairs_of}
 use Rattle.driver_core.specs.Renewal.{available_for, available_on, available_to, decided_on, decided_to, decided_with, images_decided, images_told, outcome_by, outcome_coming, source_at, renewed, subscription_at}
 use Rattle.driver_core.specs.State.{State, at_moment}
-use Rattle.driver_core.specs.declared.replies.Reply.TheVariants.{SubscriptionReady}
+use Rattle.driver_core.specs.declared.state.replies.Reply.TheVariants.{SubscriptionReady}
 use Rattle.driver_core.specs.Subscribing.{decision_of, subscribed, with_subscription}
-use Rattle.driver_core.specs.Told.{tells_reply, told_of}
+use Rattle.driver_core.specs.Report.{report_of, tells_reply}
 use Rattle.driver_core.proofs.PairLemmas.{pairs_by, principal_heard}
 use Rattle.channel_uri.specs.Channel.{Shape}
 use Rattle.client_registry.specs.declared.client.Client.{Client}
@@ -22,7 +22,7 @@ use Rattle.log_readers.specs.Turnover.{is_read_by, pair_with, pairs_with}
 use Rattle.log_readers.proofs.RisingLemmas.{all_below}
 use Rattle.log_readers.proofs.TurnoverLemmas.{subscribed_turnover}
 use Rattle.stream_registry.specs.declared.pairs.Pair.{Pair}
-use Rattle.stream_registry.specs.declared.row.Source.{Source}
+use Rattle.stream_registry.specs.declared.row.LogRow.{LogRow}
 use Rattle.stream_registry.specs.declared.row.Subscription.{Subscription}
 use Rattle.stream_registry.specs.Adding.{subscribed as subscribed_in}
 use Rattle.stream_registry.specs.Pairs.{pairs_of as pairs_on}
@@ -39,26 +39,26 @@ found_last key low last (one ∷ rows) row up above =
 
 -- ---- what is told and decided of its pairs
 
-told_alike : {Y : Type 0} (f g : Pair → List Y) (row : Subscription) (logs : List Source) →
-    ((log : Source) → f (pair_with row log) ≡ g (pair_with row log)) →
+told_alike : {Y : Type 0} (f g : Pair → List Y) (row : Subscription) (logs : List LogRow) →
+    ((log : LogRow) → f (pair_with row log) ≡ g (pair_with row log)) →
     flat_map f (map (pair_with row) logs) ≡ flat_map g (map (pair_with row) logs)
 told_alike f g row [] each = refl
 told_alike f g row (log ∷ logs) each = λ i. each log i ++ told_alike f g row logs each i
 
-available_alike : (s : State) (row : Subscription) (ends : List End) (log : Source) →
+available_alike : (s : State) (row : Subscription) (ends : List End) (log : LogRow) →
     subscription_at s.streams.subscriptions row.number ≡ Some row →
     available_for s ends (pair_with row log) ≡ available_on s.streams.sources ends row (pair_with row log)
 unfolding available_for
 available_alike s row ends log found =
     ap (available_to ends (pair_with row log) (source_at s.streams.sources log.number)) found
 
-pub decided_alike : (s after : State) (row : Subscription) (found : Option Source) → after.policy ≡ s.policy →
+pub decided_alike : (s after : State) (row : Subscription) (found : Option LogRow) → after.policy ≡ s.policy →
     after.epoch ≡ s.epoch → principal_at after.clients.rows row.client ≡ principal_at s.clients.rows row.client →
     decided_to after found (Some row) ≡ decided_to s found (Some row)
 decided_alike s after row None policy epoch principal = refl
 decided_alike s after row (Some log) policy epoch principal = rw (policy, epoch, principal) refl
 
-decisions_alike : (s after : State) (row : Subscription) (log : Source) →
+decisions_alike : (s after : State) (row : Subscription) (log : LogRow) →
     subscription_at after.streams.subscriptions row.number ≡ Some row →
     after.streams.sources ≡ s.streams.sources → after.policy ≡ s.policy → after.epoch ≡ s.epoch →
     principal_at after.clients.rows row.client ≡ principal_at s.clients.rows row.client →
@@ -116,7 +116,7 @@ comes s now handle inputs client channel stream order =
     }
 
 by_parts : (s : State) (inputs : Inputs) (draft : Draft) (row : Subscription) → draft.later ≡ [] →
-    Comes s draft.after inputs row → outcome_by s inputs draft ≡ outcome_coming s inputs (told_of draft) row
+    Comes s draft.after inputs row → outcome_by s inputs draft ≡ outcome_coming s inputs (report_of draft) row
 unfolding renewed images_told images_decided
 by_parts s inputs draft row none parts =
     rw (parts.gone, parts.come, none, parts.available, parts.decided, append-nil _) refl

@@ -4,16 +4,16 @@ use Rattle.std.specs.List.{flat_map}
 use Rattle.std.proofs.lemmas.Bool.{eqb-true}
 use Rattle.std.proofs.lemmas.List.{append_assoc}
 use Rattle.std.proofs.lemmas.List.Elements.{All-head, All-tail, All-weaker, filter_passes}
-use Rattle.driver_core.specs.declared.event.Inputs.{Inputs}
-use Rattle.driver_core.specs.declared.replies.Message.{Message}
+use Rattle.driver_core.specs.declared.state.event.Inputs.{Inputs}
+use Rattle.driver_core.specs.declared.state.replies.Message.{Message}
 use Rattle.driver_core.specs.Draft.{Draft}
 use Rattle.driver_core.specs.Pairs.{lacking, pairs_of}
 use Rattle.driver_core.specs.Renewal.{decided_on, decided_to, images_decided, images_told, outcome_by, outcome_gone, source_at, renewed, subscription_at, unavailable_for, unavailable_to}
 use Rattle.driver_core.specs.State.{State}
-use Rattle.driver_core.specs.Told.{told_of}
+use Rattle.driver_core.specs.Report.{report_of}
 use Rattle.log_readers.specs.Turnover.{IsTurnover}
 use Rattle.stream_registry.specs.declared.pairs.Pair.{Pair}
-use Rattle.stream_registry.specs.declared.row.Source.{Source}
+use Rattle.stream_registry.specs.declared.row.LogRow.{LogRow}
 
 -- ---- what it tells
 
@@ -21,7 +21,7 @@ use Rattle.stream_registry.specs.declared.row.Source.{Source}
 pub gone_outcome : (s : State) (inputs : Inputs) (draft : Draft) (gone : List Pair) (messages : List Message) →
     IsTurnover (pairs_of s) (pairs_of draft.after) gone [] →
     flat_map (unavailable_for draft.after) gone ≡ messages → flat_map (decided_on draft.after) gone ≡ [] →
-    outcome_by s inputs draft ≡ outcome_gone (record (told_of draft) { replies = draft.replies ++ messages }) gone
+    outcome_by s inputs draft ≡ outcome_gone (record (report_of draft) { replies = draft.replies ++ messages }) gone
 unfolding renewed images_told images_decided
 gone_outcome s inputs draft gone messages turnover told decided =
     let went : lacking (pairs_of s) (pairs_of draft.after) ≡ gone = turnover.gone in
@@ -33,10 +33,10 @@ gone_outcome s inputs draft gone messages turnover told decided =
 pub silent_outcome : (s : State) (inputs : Inputs) (draft : Draft) (gone : List Pair) →
     IsTurnover (pairs_of s) (pairs_of draft.after) gone [] →
     flat_map (unavailable_for draft.after) gone ≡ [] → flat_map (decided_on draft.after) gone ≡ [] →
-    outcome_by s inputs draft ≡ outcome_gone (told_of draft) gone
+    outcome_by s inputs draft ≡ outcome_gone (report_of draft) gone
 silent_outcome s inputs draft gone turnover told decided =
     gone_outcome s inputs draft gone [] turnover told decided
-    ∙ ap (λ (replies : List Message). outcome_gone (record (told_of draft) { replies = replies }) gone) (append-nil draft.replies)
+    ∙ ap (λ (replies : List Message). outcome_gone (record (report_of draft) { replies = replies }) gone) (append-nil draft.replies)
 
 -- ---- lists
 
@@ -90,7 +90,7 @@ pub not_told : (s : State) (pair : Pair) → subscription_at s.streams.subscript
 unfolding unavailable_for
 not_told s pair none = ap (unavailable_to pair) none
 
-none_decided : (s : State) (log : Option Source) → decided_to s log None ≡ []
+none_decided : (s : State) (log : Option LogRow) → decided_to s log None ≡ []
 none_decided s None = refl
 none_decided s (Some log) = refl
 
@@ -105,4 +105,4 @@ pub log_not_decided : (s : State) (pair : Pair) → source_at s.streams.sources 
     decided_on s pair ≡ []
 unfolding decided_on
 log_not_decided s pair none =
-    ap (λ (found : Option Source). decided_to s found (subscription_at s.streams.subscriptions pair.subscription)) none
+    ap (λ (found : Option LogRow). decided_to s found (subscription_at s.streams.subscriptions pair.subscription)) none

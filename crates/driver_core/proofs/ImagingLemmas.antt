@@ -2,16 +2,16 @@
 use Rattle.std.proofs.Common.{arith, ◌≡◌, ℕ, ◌+◌, List, [], ◌∷◌, get_or, Some, None, Result, Ok, Err, is_some, if◌then◌else◌, refl, ap, ◌∙◌}
 use Rattle.std.proofs.lemmas.List.Elements.{All-filter}
 use Rattle.std.specs.Prelude.{unwrap_or}
-use Rattle.driver_core.specs.declared.event.Inputs.{Inputs}
-use Rattle.driver_core.specs.declared.outcome.Response.TheVariants.{Dropped, Imaged}
-use Rattle.driver_core.specs.declared.setup_fault.SetupFault.{SetupFault}
-use Rattle.driver_core.specs.declared.setup_fault.SetupFault.TheVariants.{BadSetup, Exists}
+use Rattle.driver_core.specs.declared.state.event.Inputs.{Inputs}
+use Rattle.driver_core.specs.declared.state.outcome.Response.TheVariants.{Dropped, Imaged}
+use Rattle.driver_core.specs.declared.state.setup_fault.SetupFault.{SetupFault}
+use Rattle.driver_core.specs.declared.state.setup_fault.SetupFault.TheVariants.{BadSetup, Exists}
 use Rattle.driver_core.specs.Draft.{answered}
 use Rattle.driver_core.specs.Pairs.{is_within_pairs, pairs_of, prospects_of}
 use Rattle.driver_core.specs.Renewal.{available_for, available_from, decided_from, decided_on, outcome_by, outcome_kept, outcome_opening, reading}
 use Rattle.driver_core.specs.SettingUp.{allowed_for, fitting, image_made, new_image, place_of_image, room_for, set_by, set_up, set_up_by, setting_of, wanted_by, with_image}
 use Rattle.driver_core.specs.State.{State, at_moment, has_number}
-use Rattle.driver_core.specs.Told.{tells_answer}
+use Rattle.driver_core.specs.Report.{tells_answer}
 use Rattle.driver_core.proofs.ComingLemmas.{found_last}
 use Rattle.driver_core.proofs.OpeningLemmas.{Opens, available_alike, by_parts, decisions_alike, found_each, told_alike}
 use Rattle.driver_core.proofs.PairLemmas.{kept}
@@ -21,7 +21,7 @@ use Rattle.frame_codec.specs.declared.setup.Setup.{Setup}
 use Rattle.frame_codec.specs.Join.{join_of}
 use Rattle.log_readers.specs.Numbering.{AreInOrder, number_of, source_of}
 use Rattle.log_readers.proofs.TurnoverLemmas.{imaged_turnover}
-use Rattle.stream_registry.specs.declared.row.Source.{Source}
+use Rattle.stream_registry.specs.declared.row.LogRow.{LogRow}
 use Rattle.stream_registry.specs.declared.row.Subscription.{Subscription}
 use Rattle.stream_registry.specs.declared.wanted.ImageWanted.{ImageWanted}
 use Rattle.stream_registry.specs.Images.{image_at}
@@ -97,7 +97,7 @@ image_opens : (s : State) (now : ℕ) (inputs : Inputs) (wanted : ImageWanted) �
     Opens s (with_image (at_moment s now) wanted) inputs (new_image s wanted)
 unfolding with_image at_moment pairs_of
 image_opens s now inputs wanted order =
-    let log : Source = new_image s wanted in
+    let log : LogRow = new_image s wanted in
     let after : State = with_image (at_moment s now) wanted in
     let rows : List Subscription = s.streams.subscriptions in
     let turn = imaged_turnover s.clients.rows s.policy s.epoch s.streams (s.last_number + 1) wanted (unwrap_or (place_of_image s wanted) 0) 0 s.last_number order.sources (omega arith) in

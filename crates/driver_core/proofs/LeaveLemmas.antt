@@ -1,8 +1,8 @@
 -- Clients leave, and the driver goes: all pairs of what they had go.
 use Rattle.std.proofs.Common.{◌≡◌, ℕ, max, Bool, true, false, not, cond, List, [], filter, get_or, Option, None, Result, Ok, Err, refl, subst, ap, ◌∙◌}
-use Rattle.driver_core.specs.declared.event.Inputs.{Inputs}
-use Rattle.driver_core.specs.declared.refused.Refused.{Refused}
-use Rattle.driver_core.specs.declared.replies.Reply.TheVariants.{OperationSuccess}
+use Rattle.driver_core.specs.declared.state.event.Inputs.{Inputs}
+use Rattle.driver_core.specs.declared.state.refused.Refused.{Refused}
+use Rattle.driver_core.specs.declared.state.replies.Reply.TheVariants.{OperationSuccess}
 use Rattle.driver_core.specs.Closing.{close}
 use Rattle.driver_core.specs.Commands.{at_request, heard}
 use Rattle.driver_core.specs.Deciding.{decision_by}
@@ -13,7 +13,7 @@ use Rattle.driver_core.specs.Refusing.{denied, refused_by}
 use Rattle.driver_core.specs.Renewal.{decided_on, outcome_by, outcome_gone, subscription_at, unavailable_for}
 use Rattle.driver_core.specs.State.{State, at_moment}
 use Rattle.driver_core.specs.Terminating.{stopped_for_good, terminate, terminated, terminating_of, termination_decision}
-use Rattle.driver_core.specs.Told.{tells_reply, told_of}
+use Rattle.driver_core.specs.Report.{report_of, tells_reply}
 use Rattle.driver_core.proofs.GoneLemmas.{flat_none, found_in_part, none_of_part, not_decided, not_told, silent_outcome}
 use Rattle.driver_core.proofs.PairLemmas.{pairs_heard}
 use Rattle.client_registry.specs.declared.client.Client.{Client}
@@ -99,7 +99,7 @@ nobody_left s client correlation pair = refl
 
 pub terminated_outcome : (s : State) (now handle : ℕ) (inputs : Inputs) (client : Client) (correlation : ℕ) →
     outcome_by s inputs (terminated (at_request s now handle) client correlation)
-    ≡ outcome_gone (told_of (terminated (at_request s now handle) client correlation)) (pairs_of s)
+    ≡ outcome_gone (report_of (terminated (at_request s now handle) client correlation)) (pairs_of s)
 terminated_outcome s now handle inputs client correlation =
     let draft : Draft = terminated (at_request s now handle) client correlation in
     let nobody_at = nobody_left (at_request s now handle) client correlation in

@@ -5,8 +5,8 @@ use Rattle.std.proofs.lemmas.List.{append-nil}
 use Rattle.std.proofs.lemmas.List.Elements.{All-cons, All-filter, All-head, All-nil, All-tail}
 use Rattle.std.specs.List.{flat_map}
 use Rattle.std.specs.Prelude.{unwrap_or}
-use Rattle.driver_core.specs.declared.event.End.{End}
-use Rattle.driver_core.specs.declared.event.Inputs.{Inputs}
+use Rattle.driver_core.specs.declared.state.event.End.{End}
+use Rattle.driver_core.specs.declared.state.event.Inputs.{Inputs}
 use Rattle.driver_core.specs.Commands.{at_request, heard}
 use Rattle.driver_core.specs.Directing.{has_room_for_sole}
 use Rattle.driver_core.specs.Draft.{Draft, replied, replied_opening, told}
@@ -14,7 +14,7 @@ use Rattle.driver_core.specs.Pairs.{is_within_pairs, lacking, pairs_of}
 use Rattle.driver_core.specs.Publishing.{has_room_for_publication, new_log, opening_of, place_of_new, publication_decision, published, ready_for, with_directed_publication, with_publication}
 use Rattle.driver_core.specs.Renewal.{available_for, available_from, available_to, decided_from, decided_on, decided_to, images_decided, images_told, outcome_by, outcome_kept, outcome_opening, source_at, reading, renewed, subscription_at}
 use Rattle.driver_core.specs.State.{State, at_moment, has_number}
-use Rattle.driver_core.specs.Told.{tells_reply, told_of}
+use Rattle.driver_core.specs.Report.{report_of, tells_reply}
 use Rattle.driver_core.proofs.ComingLemmas.{decided_alike, found_last}
 use Rattle.driver_core.proofs.PairLemmas.{kept, pairs_by, pairs_heard, principal_heard}
 use Rattle.client_registry.specs.declared.client.Client.{Client}
@@ -24,7 +24,7 @@ use Rattle.log_readers.specs.Numbering.{AreInOrder, Rises, number_of, source_of}
 use Rattle.log_readers.proofs.RisingLemmas.{all_above}
 use Rattle.log_readers.proofs.TurnoverLemmas.{made_turnover}
 use Rattle.stream_registry.specs.declared.pairs.Pair.{Pair}
-use Rattle.stream_registry.specs.declared.row.Source.{Source}
+use Rattle.stream_registry.specs.declared.row.LogRow.{LogRow}
 use Rattle.stream_registry.specs.declared.row.Subscription.{Subscription}
 use Rattle.stream_registry.specs.declared.wanted.Adding.{Adding}
 use Rattle.stream_registry.specs.declared.wanted.Adding.TheVariants.{Join, Make}
@@ -49,7 +49,7 @@ found_each key low last (first ∷ rows) up =
 
 -- ---- what is told and decided of its pairs
 
-pub told_alike : {Y : Type 0} (f : Pair → List Y) (g : Subscription → List Y) (log : Source) (rows : List Subscription) →
+pub told_alike : {Y : Type 0} (f : Pair → List Y) (g : Subscription → List Y) (log : LogRow) (rows : List Subscription) →
     All (λ row. f (pair_of log row) ≡ g row) rows → flat_map f (map (pair_of log) rows) ≡ flat_map g rows
 told_alike f g log [] each = refl
 told_alike f g log (row ∷ rows) each =
@@ -57,14 +57,14 @@ told_alike f g log (row ∷ rows) each =
     let rest = told_alike f g log rows (All-tail (λ one. f (pair_of log one) ≡ g one) row rows each) in
     λ i. first i ++ rest i
 
-pub available_alike : (s : State) (ends : List End) (log : Source) (row : Subscription) →
+pub available_alike : (s : State) (ends : List End) (log : LogRow) (row : Subscription) →
     source_at s.streams.sources log.number ≡ Some log →
     subscription_at s.streams.subscriptions row.number ≡ Some row →
     available_for s ends (pair_of log row) ≡ available_from ends log row
 unfolding available_for
 available_alike s ends log row log_found found = λ i. available_to ends (pair_of log row) (log_found i) (found i)
 
-pub decisions_alike : (s after : State) (log : Source) (row : Subscription) →
+pub decisions_alike : (s after : State) (log : LogRow) (row : Subscription) →
     source_at after.streams.sources log.number ≡ Some log →
     subscription_at after.streams.subscriptions row.number ≡ Some row →
     after.policy ≡ s.policy → after.epoch ≡ s.epoch →
@@ -76,7 +76,7 @@ decisions_alike s after log row log_found found policy epoch principal =
 
 -- ---- a log that is made
 
-pub record Opens (s after : State) (inputs : Inputs) (log : Source) : Type 0 where
+pub record Opens (s after : State) (inputs : Inputs) (log : LogRow) : Type 0 where
   pub gone : lacking (pairs_of s) (pairs_of after) ≡ []
   pub come : lacking (pairs_of after) (pairs_of s) ≡ map (pair_of log) (reading s log s.streams.subscriptions)
   pub available :
@@ -101,7 +101,7 @@ opens : (s : State) (now handle : ℕ) (inputs : Inputs) (client : ℕ) (wanted 
     Opens s (with_publication (at_request s now handle) client wanted (Make session)) inputs (new_log s wanted session)
 unfolding with_publication heard at_moment touched pairs_of
 opens s now handle inputs client wanted session order =
-    let log : Source = new_log s wanted session in
+    let log : LogRow = new_log s wanted session in
     let after : State = with_publication (at_request s now handle) client wanted (Make session) in
     let rows : List Subscription = s.streams.subscriptions in
     let turn = made_turnover s.clients.rows s.policy s.epoch s.streams (s.last_number + 1) client wanted (unwrap_or (place_of_new s wanted) 0) session 0 s.last_number order.sources (omega arith) in
@@ -122,7 +122,7 @@ opens s now handle inputs client wanted session order =
     }
 
 -- where publications are directed is nothing to the pairs
-directed_opens : (s after : State) (destinations : DestinationList) (inputs : Inputs) (log : Source) →
+directed_opens : (s after : State) (destinations : DestinationList) (inputs : Inputs) (log : LogRow) →
     Opens s after inputs log → Opens s (record after { destinations = destinations }) inputs log
 unfolding pairs_of available_for decided_on
 directed_opens s after destinations inputs log opens = record {
@@ -132,8 +132,8 @@ directed_opens s after destinations inputs log opens = record {
   decided = opens.decided;
 }
 
-pub by_parts : (s : State) (inputs : Inputs) (draft : Draft) (log : Source) → draft.later ≡ [] →
-    Opens s draft.after inputs log → outcome_by s inputs draft ≡ outcome_opening s inputs (told_of draft) log
+pub by_parts : (s : State) (inputs : Inputs) (draft : Draft) (log : LogRow) → draft.later ≡ [] →
+    Opens s draft.after inputs log → outcome_by s inputs draft ≡ outcome_opening s inputs (report_of draft) log
 unfolding renewed images_told images_decided
 by_parts s inputs draft log none parts =
     rw (parts.gone, parts.come, none, parts.available, parts.decided, append-nil _) refl

@@ -4,16 +4,16 @@ use Rattle.std.proofs.lemmas.Bool.{eq-eqb, or_left, or_right}
 use Rattle.std.proofs.lemmas.List.{append-nil, append_assoc}
 use Rattle.std.specs.List.{flat_map, list_any}
 use Rattle.std.specs.Option.{option_map}
-use Rattle.driver_core.specs.declared.event.Inputs.{Inputs}
-use Rattle.driver_core.specs.declared.refusal.Refusal.{Refusal}
-use Rattle.driver_core.specs.declared.refusal.Refusal.TheVariants.{UnknownPublication, UnknownCounter, Denied, Full}
-use Rattle.driver_core.specs.declared.refused.Refused.{Refused}
-use Rattle.driver_core.specs.declared.told.Told.{Told}
+use Rattle.driver_core.specs.declared.state.event.Inputs.{Inputs}
+use Rattle.driver_core.specs.declared.state.refusal.Refusal.{Refusal}
+use Rattle.driver_core.specs.declared.state.refusal.Refusal.TheVariants.{UnknownPublication, UnknownCounter, Denied, Full}
+use Rattle.driver_core.specs.declared.state.refused.Refused.{Refused}
+use Rattle.driver_core.specs.declared.state.report.Report.{Report}
 use Rattle.driver_core.specs.Closing.{keep_alive}
 use Rattle.driver_core.specs.Commands.{at_request, body_change, heard, keeps_pairs, requested}
 use Rattle.driver_core.specs.Directing.{add_destination, directed, directed_as, directing_of, recalled, recalled_as, recalling_of, remove_destination, with_destination, without_destination}
-use Rattle.driver_core.specs.declared.directing.Directed.{Directed}
-use Rattle.driver_core.specs.declared.directing.Target.{Target}
+use Rattle.driver_core.specs.declared.rules.directing.Directed.{Directed}
+use Rattle.driver_core.specs.declared.rules.directing.Target.{Target}
 use Rattle.command_codec.specs.declared.destination.Destination.{Destination}
 use Rattle.driver_core.specs.Counting.{add_counter, counted, counter_decision, has_room_for_counter, set_counter, valued, remove_counter, uncounted, with_counter}
 use Rattle.driver_core.specs.Draft.{Draft, refused, replied, told}
@@ -23,7 +23,7 @@ use Rattle.driver_core.specs.Refusing.{decisions_by, refused_by}
 use Rattle.driver_core.specs.Renewal.{renewed, images_told, images_decided, outcome_by, outcome_kept}
 use Rattle.driver_core.specs.State.{State, at_moment}
 use Rattle.driver_core.specs.Ticking.{closed_past, late, tick, ticked, timeout_of}
-use Rattle.driver_core.specs.Told.{tells_refusal, told_of}
+use Rattle.driver_core.specs.Report.{report_of, tells_refusal}
 use Rattle.driver_core.specs.Unpublishing.{remove_publication, unpublished}
 use Rattle.client_registry.specs.declared.client.Client.{Client}
 use Rattle.client_registry.specs.Clients.{client_at, heard_one, principal_at, touched}
@@ -38,7 +38,7 @@ use Rattle.log_readers.proofs.SameLemmas.{unregistered_alike}
 use Rattle.policy_core.specs.declared.decision.Decision.{Decision}
 use Rattle.policy_core.specs.RuleList.{Rules}
 use Rattle.stream_registry.specs.declared.pairs.Pair.{Pair}
-use Rattle.stream_registry.specs.declared.row.Source.{Source}
+use Rattle.stream_registry.specs.declared.row.LogRow.{LogRow}
 use Rattle.stream_registry.specs.declared.row.Subscription.{Subscription}
 use Rattle.stream_registry.specs.Leaving.{has_registration, unregistered}
 use Rattle.stream_registry.specs.Lingering.{closed, closing_of, is_closing, place_of, stays_live}
@@ -75,13 +75,13 @@ principal_heard (row ∷ rows) handle moment number =
 
 -- ---- the pairs are by the lists, the policy and whom clients act for
 
-abbrev by_principals : (ℕ → Option ℕ) → Rules → ℕ → Source → Subscription → Bool
+abbrev by_principals : (ℕ → Option ℕ) → Rules → ℕ → LogRow → Subscription → Bool
 by_principals principals policy epoch log subscription =
     fits log subscription && is_allowed_to policy epoch subscription (principals subscription.client)
 
 abbrev pairs_with : (ℕ → Option ℕ) → Rules → ℕ → Streams → List Pair
 pairs_with principals policy epoch streams =
-    flat_map (λ (log : Source).
+    flat_map (λ (log : LogRow).
     map (pair_of log) (filter (by_principals principals policy epoch log) streams.subscriptions)) streams.sources
 
 pairs_are : (s : State) → pairs_of s ≡ pairs_with (principal_at s.clients.rows) s.policy s.epoch s.streams
@@ -95,7 +95,7 @@ pairs_by s t streams policy epoch principals =
 
 -- and so are those that may yet be, by what the policy becomes too
 
-abbrev may_by_principals : (ℕ → Option ℕ) → Rules → List Rules → ℕ → Source → Subscription → Bool
+abbrev may_by_principals : (ℕ → Option ℕ) → Rules → List Rules → ℕ → LogRow → Subscription → Bool
 may_by_principals principals policy coming epoch log subscription =
     fits log subscription
     && (is_allowed_to policy epoch subscription (principals subscription.client)
@@ -103,7 +103,7 @@ may_by_principals principals policy coming epoch log subscription =
 
 abbrev prospects_with : (ℕ → Option ℕ) → Rules → List Rules → ℕ → Streams → List Pair
 prospects_with principals policy coming epoch streams =
-    flat_map (λ (log : Source).
+    flat_map (λ (log : LogRow).
     map (pair_of log) (filter (may_by_principals principals policy coming epoch log) streams.subscriptions)) streams.sources
 
 prospects_are : (s : State) → prospects_of s ≡ prospects_with (principal_at s.clients.rows) s.policy s.prospects s.epoch s.streams
@@ -124,7 +124,7 @@ or_false false = refl
 settled_on : (s : Streams) (clients : List Client) (policy : Rules) (epoch : ℕ) → prospects_on s clients policy [] epoch ≡ pairs_on s clients policy epoch
 unfolding prospects_on pairs_on is_ever_allowed
 settled_on s clients policy epoch = λ i.
-    flat_map (λ (log : Source).
+    flat_map (λ (log : LogRow).
     map (pair_of log) (filter (λ (subscription : Subscription). fits log subscription && or_false (is_allowed clients policy epoch subscription) i) s.subscriptions))
     s.sources
 
@@ -161,7 +161,7 @@ nothing_lacks pairs = lacks_none [] pairs
 
 -- a draft is told as it is, with the later replies behind the others
 pub kept : (s : State) (inputs : Inputs) (draft : Draft) → pairs_of draft.after ≡ pairs_of s →
-    outcome_by s inputs draft ≡ outcome_kept (told_of draft)
+    outcome_by s inputs draft ≡ outcome_kept (report_of draft)
 unfolding renewed images_told images_decided
 kept s inputs draft same = rw (same, nothing_lacks (pairs_of s), append-nil draft.decisions) refl
 
@@ -297,7 +297,7 @@ body_keeps s client correlation (Terminates fields) keeps = absurd cc
 pub request_kept : (s : State) (now handle : ℕ) (inputs : Inputs) (client : Client) (command : Command) →
     keeps_pairs command.body ≡ true →
     outcome_by s inputs (requested (at_request s now handle) client command)
-    ≡ outcome_kept (told_of (requested (at_request s now handle) client command))
+    ≡ outcome_kept (report_of (requested (at_request s now handle) client command))
 unfolding requested
 request_kept s now handle inputs client command keeps =
     kept s inputs (requested (at_request s now handle) client command)
@@ -309,7 +309,7 @@ none_late : (clients : List ℕ) → map timeout_of clients ≡ [] → clients �
 none_late [] none = refl
 none_late (client ∷ clients) none = absurd cc
 
-one_stays : (now : ℕ) (silent : List ℕ) (closes : Bool) (log : Source) (logs : List Source) →
+one_stays : (now : ℕ) (silent : List ℕ) (closes : Bool) (log : LogRow) (logs : List LogRow) →
     is_closing now silent log ≡ closes → map place_of (filter (is_closing now silent) (log ∷ logs)) ≡ [] →
     (map place_of (filter (is_closing now silent) logs) ≡ [] → filter (stays_live now silent) logs ≡ logs) →
     filter (stays_live now silent) (log ∷ logs) ≡ log ∷ logs
@@ -320,9 +320,9 @@ one_stays now silent true log logs is none others =
     absurd cc
 one_stays now silent false log logs is none others =
     let rest : map place_of (filter (is_closing now silent) logs) ≡ [] = (rw is refl) ∙ none in
-    rw is (ap (λ (kept : List Source). log ∷ kept) (others rest))
+    rw is (ap (λ (kept : List LogRow). log ∷ kept) (others rest))
 
-all_stay : (now : ℕ) (silent : List ℕ) (logs : List Source) → map place_of (filter (is_closing now silent) logs) ≡ [] →
+all_stay : (now : ℕ) (silent : List ℕ) (logs : List LogRow) → map place_of (filter (is_closing now silent) logs) ≡ [] →
     filter (stays_live now silent) logs ≡ logs
 all_stay now silent [] none = refl
 all_stay now silent (log ∷ logs) none =
@@ -333,7 +333,7 @@ ticked_keeps : (s : State) (clients silent : List ℕ) → clients ≡ [] →
     pairs_of (ticked (all_left s clients) clients silent).after ≡ pairs_of s
 unfolding ticked closed_past closed closing_of pairs_of pairs_on
 ticked_keeps s [] silent none closes =
-    ap (λ (logs : List Source). flat_map (pairs_at s.clients.rows s.policy s.epoch s.streams.subscriptions) logs)
+    ap (λ (logs : List LogRow). flat_map (pairs_at s.clients.rows s.policy s.epoch s.streams.subscriptions) logs)
     (all_stay s.moment silent s.streams.sources closes)
 ticked_keeps s (client ∷ clients) silent none closes = absurd cc
 
@@ -346,11 +346,11 @@ same_moment : (s : State) (now : ℕ) → pairs_of (at_moment s now) ≡ pairs_o
 unfolding at_moment pairs_of
 same_moment s now = refl
 
-pub tick_kept : (s : State) (now : ℕ) (inputs : Inputs) (told : Told) → told ≡ told_of (tick (at_moment s now) inputs.silent) →
+pub tick_kept : (s : State) (now : ℕ) (inputs : Inputs) (told : Report) → told ≡ report_of (tick (at_moment s now) inputs.silent) →
     told.later ≡ [] → told.closes ≡ [] →
     outcome_by s inputs (tick (at_moment s now) inputs.silent) ≡ outcome_kept told
 tick_kept s now inputs told is later closes =
-    let late_none : (tick (at_moment s now) inputs.silent).later ≡ [] = sym (ap (λ (t : Told). t.later) is) ∙ later in
-    let closes_none : (tick (at_moment s now) inputs.silent).closes ≡ [] = sym (ap (λ (t : Told). t.closes) is) ∙ closes in
+    let late_none : (tick (at_moment s now) inputs.silent).later ≡ [] = sym (ap (λ (t : Report). t.later) is) ∙ later in
+    let closes_none : (tick (at_moment s now) inputs.silent).closes ≡ [] = sym (ap (λ (t : Report). t.closes) is) ∙ closes in
     kept s inputs (tick (at_moment s now) inputs.silent) (tick_keeps (at_moment s now) inputs.silent late_none closes_none ∙ same_moment s now)
     ∙ ap outcome_kept (sym is)

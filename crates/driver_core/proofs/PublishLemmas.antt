@@ -1,10 +1,10 @@
 -- A publication is made or refused by what is decided on it.
 use Rattle.std.proofs.Common.{◌≡◌, ℕ, Bool, true, false, [], Result, Ok, Err, refl, subst, ◌∙◌}
-use Rattle.driver_core.specs.declared.publishing.Granted.{Granted}
-use Rattle.driver_core.specs.declared.refused.Refused.{Refused}
+use Rattle.driver_core.specs.declared.rules.publishing.Granted.{Granted}
+use Rattle.driver_core.specs.declared.state.refused.Refused.{Refused}
 use Rattle.driver_core.specs.Draft.{Draft, refused}
 use Rattle.driver_core.specs.Publishing.{add_publication, granting_of, has_place, has_room_for_publication, publication_decision, is_publishable, publish, publish_by, publish_on, publish_under, published, publishing_by, publishing_of}
-use Rattle.driver_core.specs.declared.refusal.Refusal.TheVariants.{Full, NoRoom, InvalidChannel}
+use Rattle.driver_core.specs.declared.state.refusal.Refusal.TheVariants.{Full, NoRoom, InvalidChannel}
 use Rattle.driver_core.specs.Refusing.{denied, on, refused_by}
 use Rattle.driver_core.specs.State.{State}
 use Rattle.client_registry.specs.declared.client.Client.{Client}

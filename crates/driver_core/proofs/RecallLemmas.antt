@@ -5,16 +5,16 @@ use Rattle.std.specs.List.{list_any}
 use Rattle.driver_core.specs.Ticking.{numbers_of_closing}
 use Rattle.destinations.specs.declared.destination.Destination.{Destination}
 use Rattle.destinations.specs.Destinations.{DestinationList, is_of_others, without_sources}
-use Rattle.stream_registry.specs.declared.row.Source.{Source}
+use Rattle.stream_registry.specs.declared.row.LogRow.{LogRow}
 use Rattle.stream_registry.specs.Lingering.{is_closing}
 
 -- behind one of the logs
-abbrev pub recalled_with : ℕ → List ℕ → Source → DestinationList → DestinationList
+abbrev pub recalled_with : ℕ → List ℕ → LogRow → DestinationList → DestinationList
 recalled_with now silent log destinations =
     cond (is_closing now silent log) (without_sources destinations (log.number ∷ [])) destinations
 
 -- behind all of them
-abbrev pub recalled_by : ℕ → List ℕ → DestinationList → List Source → DestinationList
+abbrev pub recalled_by : ℕ → List ℕ → DestinationList → List LogRow → DestinationList
 recalled_by now silent destinations [] = destinations
 recalled_by now silent destinations (log ∷ logs) =
     recalled_by now silent (recalled_with now silent log destinations) logs
@@ -52,7 +52,7 @@ unfolding without_sources
 without_more destinations number numbers =
     ap (λ (rows : List Destination). record destinations { rows = rows }) (rows_go number numbers destinations.rows)
 
-one_recalled : (b : Bool) (now : ℕ) (silent : List ℕ) (destinations : DestinationList) (log : Source) (logs : List Source) →
+one_recalled : (b : Bool) (now : ℕ) (silent : List ℕ) (destinations : DestinationList) (log : LogRow) (logs : List LogRow) →
     is_closing now silent log ≡ b →
     without_sources (cond b (without_sources destinations (log.number ∷ [])) destinations) (numbers_of_closing now silent logs)
     ≡ without_sources destinations (numbers_of_closing now silent (log ∷ logs))
@@ -60,7 +60,7 @@ one_recalled true now silent destinations log logs is =
     rw is (without_more destinations log.number (numbers_of_closing now silent logs))
 one_recalled false now silent destinations log logs is = rw is refl
 
-pub all_recalled : (now : ℕ) (silent : List ℕ) (destinations : DestinationList) (logs : List Source) →
+pub all_recalled : (now : ℕ) (silent : List ℕ) (destinations : DestinationList) (logs : List LogRow) →
     recalled_by now silent destinations logs ≡ without_sources destinations (numbers_of_closing now silent logs)
 all_recalled now silent destinations [] = sym (without_none destinations)
 all_recalled now silent destinations (log ∷ logs) =

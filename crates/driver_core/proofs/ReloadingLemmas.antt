@@ -1,13 +1,13 @@
 -- What a policy that is to be in force tells, by the registry as it stands.
 use Rattle.std.proofs.Common.{◌≡◌, ℕ, ◌+◌, Bool, true, false, [], ◌++◌, None, if◌then◌else◌, max, refl, ap, ◌∙◌}
-use Rattle.driver_core.specs.declared.event.Inputs.{Inputs}
-use Rattle.driver_core.specs.declared.outcome.Response.TheVariants.{PolicyFull, PolicyInForce}
+use Rattle.driver_core.specs.declared.state.event.Inputs.{Inputs}
+use Rattle.driver_core.specs.declared.state.outcome.Response.TheVariants.{PolicyFull, PolicyInForce}
 use Rattle.driver_core.specs.Draft.{answered}
 use Rattle.driver_core.specs.Pairs.{pairs_of}
 use Rattle.driver_core.specs.Reloading.{has_room_for_policy, in_force, reload, reloaded}
 use Rattle.driver_core.specs.Renewal.{available_for, come_to, decided_on, gone_from, images_decided, images_told, outcome_by, outcome_kept, renewed, unavailable_for, under}
 use Rattle.driver_core.specs.State.{State, at_moment}
-use Rattle.driver_core.specs.Told.{tells_answer}
+use Rattle.driver_core.specs.Report.{tells_answer}
 use Rattle.driver_core.proofs.PairLemmas.{kept}
 use Rattle.policy_core.specs.Moments.{at}
 use Rattle.policy_core.specs.RuleList.{Rules}

@@ -5,11 +5,11 @@ use Rattle.driver_core.specs.Draft.{Draft, replied, replied_opening, told}
 use Rattle.driver_core.specs.Publishing.{new_log, opening_of, publication_decision, published, ready_for}
 use Rattle.driver_core.specs.Renewal.{come_to, gone_from, images_decided, images_told, outcome_by, renewed}
 use Rattle.driver_core.specs.State.{State, ruled}
-use Rattle.driver_core.specs.Told.{tells_reply, told_of}
-use Rattle.driver_core.specs.declared.event.Event.{Event}
-use Rattle.driver_core.specs.declared.event.Inputs.{Inputs}
-use Rattle.driver_core.specs.declared.outcome.Outcome.{Outcome}
-use Rattle.driver_core.specs.declared.told.Told.{Told}
+use Rattle.driver_core.specs.Report.{report_of, tells_reply}
+use Rattle.driver_core.specs.declared.state.event.Event.{Event}
+use Rattle.driver_core.specs.declared.state.event.Inputs.{Inputs}
+use Rattle.driver_core.specs.declared.state.outcome.Outcome.{Outcome}
+use Rattle.driver_core.specs.declared.state.report.Report.{Report}
 use Rattle.client_registry.specs.declared.client.Client.{Client}
 use Rattle.policy_core.specs.Moments.{at, coming}
 use Rattle.stream_registry.specs.declared.pairs.Pair.{Pair}
@@ -29,7 +29,7 @@ pub coming_so : (s : State) (event : Event) (now : ℕ) → now ≡ moment_told 
 coming_so s event now told so = sym (ap (ruled s) told) ∙ so
 
 -- what is reported of an event where the pairs before it and after it are compared
-abbrev pub turned : State → Inputs → Told → List Pair → List Pair → Outcome
+abbrev pub turned : State → Inputs → Report → List Pair → List Pair → Outcome
 turned after inputs told gone come = record {
   response = told.response;
   replies = told.replies ++ (images_told after inputs gone come ++ told.later);
@@ -41,7 +41,7 @@ turned after inputs told gone come = record {
 }
 
 -- what is reported where these pairs went and came and are told of already
-abbrev pub reported : Told → List Pair → List Pair → Outcome
+abbrev pub reported : Report → List Pair → List Pair → Outcome
 reported told gone come = record {
   response = told.response;
   replies = told.replies;
@@ -52,8 +52,8 @@ reported told gone come = record {
   come = come;
 }
 
-pub turned_is : (s : State) (inputs : Inputs) (draft : Draft) (after : State) (told : Told) (gone come : List Pair) →
-    after ≡ draft.after → told ≡ told_of draft → gone ≡ gone_from s after → come ≡ come_to s after →
+pub turned_is : (s : State) (inputs : Inputs) (draft : Draft) (after : State) (told : Report) (gone come : List Pair) →
+    after ≡ draft.after → told ≡ report_of draft → gone ≡ gone_from s after → come ≡ come_to s after →
     turned after inputs told gone come ≡ outcome_by s inputs draft
 unfolding renewed
 turned_is s inputs draft after told gone come done tells goes comes =
@@ -62,7 +62,7 @@ turned_is s inputs draft after told gone come done tells goes comes =
     λ i. turned (done i) inputs (tells i) (goes' i) (comes' i)
 
 -- the outcome of two lists of pairs that are compared: `lists` is the registry that is left, by its policy and number
-pub between_is : (s after lists : State) (inputs : Inputs) (told both : Told) (gone come : List Pair) (outcome : Outcome) →
+pub between_is : (s after lists : State) (inputs : Inputs) (told both : Report) (gone come : List Pair) (outcome : Outcome) →
     lists ≡ after → gone ≡ gone_from s after → come ≡ come_to s after →
     both ≡ record told {
       replies = told.replies ++ (images_told after inputs gone come ++ told.later);
@@ -72,7 +72,7 @@ pub between_is : (s after lists : State) (inputs : Inputs) (told both : Told) (g
     outcome ≡ turned after inputs told (gone_from s after) (come_to s after)
 between_is s after lists inputs told both gone come outcome same goes comes tells is =
     is
-    ∙ ap (λ (t : Told). reported t gone come) tells
+    ∙ ap (λ (t : Report). reported t gone come) tells
     ∙ (λ i. record {
       response = told.response;
       replies = told.replies ++ (images_told after inputs (goes i) (comes i) ++ told.later);
@@ -86,17 +86,17 @@ between_is s after lists inputs told both gone come outcome same goes comes tell
 -- what a publication reports, by what the lists make of it
 pub published_joined : (s : State) (client : Client) (correlation : ℕ) (wanted : Wanted) (adding : Adding) (source : ℕ) (session : ℤ) →
     adding ≡ Join source session →
-    told_of (published s client correlation wanted adding)
+    report_of (published s client correlation wanted adding)
     ≡ tells_reply (publication_decision s client wanted ∷ []) client.number (ready_for wanted correlation (s.last_number + 1) session)
 unfolding published opening_of replied_opening replied told
 published_joined s client correlation wanted adding source session is =
-    ap (λ (one : Adding). told_of (published s client correlation wanted one)) is
+    ap (λ (one : Adding). report_of (published s client correlation wanted one)) is
 
 pub published_made : (s : State) (client : Client) (correlation : ℕ) (wanted : Wanted) (adding : Adding) (session : ℤ) →
     adding ≡ Make session →
-    told_of (published s client correlation wanted adding)
+    report_of (published s client correlation wanted adding)
     ≡ record (tells_reply (publication_decision s client wanted ∷ []) client.number
     (ready_for wanted correlation (s.last_number + 1) session)) { opens = Some (place_of (new_log s wanted session)) }
 unfolding published opening_of replied_opening replied told
 published_made s client correlation wanted adding session is =
-    ap (λ (one : Adding). told_of (published s client correlation wanted one)) is
+    ap (λ (one : Adding). report_of (published s client correlation wanted one)) is

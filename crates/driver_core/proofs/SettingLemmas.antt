@@ -4,8 +4,8 @@ use Rattle.std.specs.Prelude.{◌||◌, is_none}
 use Rattle.std.specs.List.{flat_map, list_any}
 use Rattle.std.proofs.lemmas.Bool.{cond_both, not-false}
 use Rattle.std.proofs.lemmas.List.Elements.{filter_agree}
-use Rattle.driver_core.specs.declared.setup_fault.SetupFault.{SetupFault}
-use Rattle.driver_core.specs.declared.setup_fault.SetupFault.TheVariants.{Denied}
+use Rattle.driver_core.specs.declared.state.setup_fault.SetupFault.{SetupFault}
+use Rattle.driver_core.specs.declared.state.setup_fault.SetupFault.TheVariants.{Denied}
 use Rattle.driver_core.specs.Pairs.{is_within_pairs, pairs_of}
 use Rattle.driver_core.specs.SettingUp.{allowed_for, fitting, has_room_for_setup, is_within_source, new_image, place_of_image, placing, room_for, setting_of, verdict_for, verdict_to, with_image}
 use Rattle.driver_core.specs.State.{State, has_number}
@@ -13,7 +13,7 @@ use Rattle.client_registry.specs.Clients.{principal_at}
 use Rattle.log_readers.specs.Unread.{is_kept, is_of_source}
 use Rattle.policy_core.specs.declared.verdict.Verdict.{Verdict}
 use Rattle.stream_registry.specs.declared.pairs.Pair.{Pair}
-use Rattle.stream_registry.specs.declared.row.Source.{Source}
+use Rattle.stream_registry.specs.declared.row.LogRow.{LogRow}
 use Rattle.stream_registry.specs.declared.row.Subscription.{Subscription}
 use Rattle.stream_registry.specs.declared.wanted.ImageWanted.{ImageWanted}
 use Rattle.stream_registry.specs.Images.{has_room_for_image, image_at, image_of}
@@ -85,7 +85,7 @@ any_before source (pair ∷ first) second has =
     one_or_rest (pair.source == source) (list_any (is_of_source source) first) (list_any (is_of_source source) (first ++ second))
     (any_before source first second) has
 
-module _ (s : State) (log : Source) where
+module _ (s : State) (log : LogRow) where
   abbrev reading : List Subscription → List Subscription
   reading rows = filter (is_pair s.clients.rows s.policy s.epoch log) rows
 
@@ -109,7 +109,7 @@ module _ (s : State) (log : Source) where
       (list_any (is_of_source log.number) (map (pair_of log) (reading rows))) row (filter (fits log) rows) refl (is_read rows)
       (reading rows) refl has
 
-  any_of_last : (logs : List Source) →
+  any_of_last : (logs : List LogRow) →
       list_any (is_of_source log.number) (pairs_at s.clients.rows s.policy s.epoch s.streams.subscriptions log) ≡ true →
       list_any (is_of_source log.number)
       (flat_map (pairs_at s.clients.rows s.policy s.epoch s.streams.subscriptions) (logs ++ log ∷ []))
@@ -123,7 +123,7 @@ pub image_is_kept : (s : State) (wanted : ImageWanted) (place : ℕ) → setting
     is_kept (pairs_of (with_image s wanted)) (new_image s wanted) ≡ true
 unfolding pairs_of pairs_on with_image
 image_is_kept s wanted place set =
-    let log : Source = new_image s wanted in
+    let log : LogRow = new_image s wanted in
     let read = any_of_last s log s.streams.sources (is_read s log s.streams.subscriptions (is_set s wanted place set).allowed) in
     ap (λ (b : Bool). not (not b)) read
 

@@ -8,20 +8,20 @@ use Rattle.std.proofs.lemmas.List.Filters.{length-filter_both}
 use Rattle.std.proofs.lemmas.Bool.{ltb-true, and_parts}
 use Rattle.driver_core.specs.Change.{Change}
 use Rattle.driver_core.specs.Draft.{Draft}
-use Rattle.driver_core.specs.declared.event.Event.{Event}
-use Rattle.driver_core.specs.declared.event.Event.TheVariants.{Attach, Command, Reload, Setup, Tick}
-use Rattle.driver_core.specs.declared.event.Inputs.{Inputs}
-use Rattle.driver_core.specs.declared.outcome.Response.{Response}
-use Rattle.driver_core.specs.declared.peer.Peer.{Peer}
-use Rattle.driver_core.specs.declared.refusal.Refusal.{Refusal}
-use Rattle.driver_core.specs.declared.settings.Settings.{Settings}
+use Rattle.driver_core.specs.declared.state.event.Event.{Event}
+use Rattle.driver_core.specs.declared.state.event.Event.TheVariants.{Attach, Command, Reload, Setup, Tick}
+use Rattle.driver_core.specs.declared.state.event.Inputs.{Inputs}
+use Rattle.driver_core.specs.declared.state.outcome.Response.{Response}
+use Rattle.driver_core.specs.declared.state.peer.Peer.{Peer}
+use Rattle.driver_core.specs.declared.state.refusal.Refusal.{Refusal}
+use Rattle.driver_core.specs.declared.state.settings.Settings.{Settings}
 use Rattle.driver_core.specs.Attaching.{attached}
 use Rattle.driver_core.specs.Closing.{keep_alive, close}
 use Rattle.driver_core.specs.Commands.{heard, at_request}
 use Rattle.driver_core.specs.Conduct.{conduct, drafted, state_after, state_of, coming_to, moment_told}
 use Rattle.driver_core.specs.Directing.{directed, recalled, with_destination, without_destination}
-use Rattle.driver_core.specs.declared.directing.Directed.{Directed}
-use Rattle.driver_core.specs.declared.directing.Target.{Target}
+use Rattle.driver_core.specs.declared.rules.directing.Directed.{Directed}
+use Rattle.driver_core.specs.declared.rules.directing.Target.{Target}
 use Rattle.destinations.specs.Destinations.{DestinationList}
 use Rattle.driver_core.specs.Counting.{counted, with_counter, valued, uncounted}
 use Rattle.driver_core.specs.Draft.{answered, told, replied, replied_opening, refused}
@@ -54,7 +54,7 @@ use Rattle.policy_core.specs.declared.decision.Decision.{Decision}
 use Rattle.policy_core.specs.RuleList.{Rules}
 use Rattle.stream_registry.specs.declared.lingering.LogPlace.{LogPlace}
 use Rattle.stream_registry.specs.declared.pairs.Pair.{Pair}
-use Rattle.stream_registry.specs.declared.row.Source.{Source}
+use Rattle.stream_registry.specs.declared.row.LogRow.{LogRow}
 use Rattle.stream_registry.specs.declared.wanted.Adding.{Adding}
 use Rattle.stream_registry.specs.declared.wanted.Adding.TheVariants.{Join, Make}
 use Rattle.stream_registry.specs.declared.wanted.ImageWanted.{ImageWanted}
@@ -77,7 +77,7 @@ use Rattle.driver_core.proofs.UnreadLemmas.{closed_left, filter_joined, fresh_le
 record Moves (s : State) (draft : Draft) : Type 0 where
   sound : IsSound draft.after
   settings : draft.after.settings ≡ s.settings
-  opened : List Source
+  opened : List LogRow
   opens : Opens s draft.opens opened
   read : filter (is_kept (pairs_of draft.after)) opened ≡ opened
   fresh : AllByRecursion (λ log. s.last_number < log.number) opened
@@ -110,7 +110,7 @@ keeps_sound s after sound keeps = record {
 keeps_moves : (s : State) (draft : Draft) → IsSound s → Keeps s draft.after → draft.opens ≡ None → draft.closes ≡ [] →
     Moves s draft
 keeps_moves s draft sound keeps opens closes =
-    let before : List Source = map log_of s.streams.sources in
+    let before : List LogRow = map log_of s.streams.sources in
     record {
       sound = keeps_sound s draft.after sound keeps;
       settings = keeps.settings;
@@ -317,10 +317,10 @@ added_sound : (s : State) (client : ℕ) (wanted : Wanted) (session : ℤ) (plac
       last_number = s.last_number + 1;
     })
 added_sound s client wanted session place sound found =
-    let log : Source = made_log s.streams (s.last_number + 1) wanted place session in
+    let log : LogRow = made_log s.streams (s.last_number + 1) wanted place session in
     record {
       defaults = sound.defaults;
-      sizes = All-push (λ (one : Source). AreSizes one.measures) s.streams.sources log sound.sizes
+      sizes = All-push (λ (one : LogRow). AreSizes one.measures) s.streams.sources log sound.sizes
           (sizes_of_made s.streams.defaults wanted.channel sound.defaults);
       numbered = ascend_push 0 s.last_number (s.last_number + 1) s.streams.sources log sound.numbered
           (omega arith) (omega arith);
@@ -354,7 +354,7 @@ directed_keeps s after destinations keeps = record {
 }
 
 -- the log that is made, at the place for it
-abbrev log_made : State → Wanted → ℤ → Source
+abbrev log_made : State → Wanted → ℤ → LogRow
 log_made s wanted session =
     made_log s.streams (s.last_number + 1) wanted (unwrap_or (place_of_new s wanted) 0) session
 
@@ -386,7 +386,7 @@ publication_moves s client correlation wanted (Join source session) sound placed
 publication_moves s client correlation wanted (Make session) sound placed =
     let place : ℕ = unwrap_or (place_of_new s wanted) 0 in
     let found : place_of_new s wanted ≡ Some place = found_place (place_of_new s wanted) placed in
-    let log : Source = log_made s wanted session in
+    let log : LogRow = log_made s wanted session in
     record {
       sound = directed_sound (with_publication s client.number wanted (Make session)) _
           (made_sound s client.number wanted session sound found);
@@ -431,7 +431,7 @@ image_sound s local from setup join sound is found =
     let joins = joins_are_sound setup join is in
     record {
       defaults = sound.defaults;
-      sizes = All-push (λ (one : Source). AreSizes one.measures) s.streams.sources (new_image s wanted) sound.sizes
+      sizes = All-push (λ (one : LogRow). AreSizes one.measures) s.streams.sources (new_image s wanted) sound.sizes
           (record {
             term_low = joins.term_low;
             term_high = joins.term_high;
@@ -455,7 +455,7 @@ image_moves s local from setup join place sound is set =
     let wanted : ImageWanted = image_wanted_by local from setup join in
     let there : place_of_image s wanted ≡ Some place = place_is_set s wanted place set in
     let found : place_of_image s wanted ≡ Some (unwrap_or (place_of_image s wanted) 0) = rw there refl in
-    let log : Source = new_image s wanted in
+    let log : LogRow = new_image s wanted in
     record {
       sound = image_sound s local from setup join sound is found;
       settings = image_settings s wanted;
@@ -480,7 +480,7 @@ closed_sound : (s : State) (silent : List ℕ) → IsSound s → IsSound (closed
 unfolding closed_past closed
 closed_sound s silent sound = record {
   defaults = sound.defaults;
-  sizes = All-filter (stays_live s.moment silent) (λ (log : Source). AreSizes log.measures) s.streams.sources
+  sizes = All-filter (stays_live s.moment silent) (λ (log : LogRow). AreSizes log.measures) s.streams.sources
       sound.sizes;
   numbered = kept_ascend (stays_live s.moment silent) 0 s.last_number s.streams.sources sound.numbered;
   begins = All-filter (stays_live s.moment silent) BeginsSoundly s.streams.sources sound.begins;
@@ -531,7 +531,7 @@ unfolding terminated stopped_for_good
 termination_moves s client correlation sound = record {
   sound = record {
     defaults = sound.defaults;
-    sizes = All-nil (λ (log : Source). AreSizes log.measures);
+    sizes = All-nil (λ (log : LogRow). AreSizes log.measures);
     numbered = omega arith;
     begins = All-nil BeginsSoundly;
     laid_out = (share_nothing s.settings.arena_pages).cleared s.streams sound.laid_out;
@@ -571,13 +571,13 @@ request_sound s now handle sound = record {
   subscriptions = sound.subscriptions;
 }
 
-moment_opens : (s : State) (now : ℕ) (opens : Option LogPlace) (logs : List Source) →
+moment_opens : (s : State) (now : ℕ) (opens : Option LogPlace) (logs : List LogRow) →
     Opens (at_moment s now) opens logs → Opens s opens logs
 unfolding at_moment
 moment_opens s now None logs opens = opens
 moment_opens s now (Some place) logs opens = opens
 
-request_opens : (s : State) (now handle : ℕ) (opens : Option LogPlace) (logs : List Source) →
+request_opens : (s : State) (now handle : ℕ) (opens : Option LogPlace) (logs : List LogRow) →
     Opens (at_request s now handle) opens logs → Opens s opens logs
 unfolding heard at_moment
 request_opens s now handle None logs opens = opens
@@ -681,17 +681,17 @@ unread_settings s = refl
 unread_sound : (s : State) → IsSound s → IsSound (without_unread s)
 unfolding without_unread without_unread_in
 unread_sound s sound =
-    let kept : Source → Bool = is_kept (pairs_on s.streams s.clients.rows s.policy s.epoch) in
+    let kept : LogRow → Bool = is_kept (pairs_on s.streams s.clients.rows s.policy s.epoch) in
     record {
       defaults = sound.defaults;
-      sizes = All-filter kept (λ (log : Source). AreSizes log.measures) s.streams.sources sound.sizes;
+      sizes = All-filter kept (λ (log : LogRow). AreSizes log.measures) s.streams.sources sound.sizes;
       numbered = kept_ascend kept 0 s.last_number s.streams.sources sound.numbered;
       begins = All-filter kept BeginsSoundly s.streams.sources sound.begins;
       laid_out = kept_laid_out s.settings.arena_pages s.streams _ kept refl sound.laid_out;
       subscriptions = sound.subscriptions;
     }
 
-dropping_moves : (s : State) (change : Change) (opened : List Source) → IsSound s → IsSound change.after →
+dropping_moves : (s : State) (change : Change) (opened : List LogRow) → IsSound s → IsSound change.after →
     filter (is_kept (pairs_of change.after)) opened ≡ opened →
     map log_of change.after.streams.sources
     ≡ filter (is_left change.outcome.closes) (map log_of s.streams.sources) ++ opened →
@@ -703,7 +703,7 @@ dropping_moves s change opened sound after read logs =
     kept_as_logs pairs change.after.streams.sources
     ∙ ap (filter (is_kept pairs)) logs
     ∙ filter_joined (is_kept pairs) (filter (is_left change.outcome.closes) (map log_of s.streams.sources)) opened
-    ∙ ap₂ (λ (front back : List Source). front ++ back)
+    ∙ ap₂ (λ (front back : List LogRow). front ++ back)
     (sym (closed_left pairs change.outcome.closes s.last_number s.streams.sources sound.numbered)) read
 
 -- what the policy becomes at a moment leaves the logs
@@ -743,7 +743,7 @@ opened_sound : (settings : Settings) (policy : Rules) (peers : List Peer) → Ar
 unfolding opened
 opened_sound settings policy peers sound = record {
   defaults = sound.sizes;
-  sizes = All-nil (λ (log : Source). AreSizes log.measures);
+  sizes = All-nil (λ (log : LogRow). AreSizes log.measures);
   numbered = omega arith;
   begins = All-nil BeginsSoundly;
   laid_out = (share_nothing settings.arena_pages).opened _ settings.first_session;

@@ -3,18 +3,18 @@ use Rattle.std.proofs.Common.{◌≡◌, ℕ, ◌<◌, ◌≤◌, Bool, true, fa
 use Rattle.std.specs.List.{Contains}
 use Rattle.std.proofs.lemmas.List.Elements.{All-contains, All-contains_itself, All-map, All-weaker, Contains-push_cases}
 use Rattle.driver_core.specs.Draft.{Draft}
-use Rattle.driver_core.specs.declared.event.Event.{Event}
-use Rattle.driver_core.specs.declared.event.Event.TheVariants.{Attach, Command, Reload, Setup, Tick}
-use Rattle.driver_core.specs.declared.event.Inputs.{Inputs}
-use Rattle.driver_core.specs.declared.outcome.Response.{Response}
-use Rattle.driver_core.specs.declared.refusal.Refusal.{Refusal}
+use Rattle.driver_core.specs.declared.state.event.Event.{Event}
+use Rattle.driver_core.specs.declared.state.event.Event.TheVariants.{Attach, Command, Reload, Setup, Tick}
+use Rattle.driver_core.specs.declared.state.event.Inputs.{Inputs}
+use Rattle.driver_core.specs.declared.state.outcome.Response.{Response}
+use Rattle.driver_core.specs.declared.state.refusal.Refusal.{Refusal}
 use Rattle.driver_core.specs.Attaching.{attached}
 use Rattle.driver_core.specs.Closing.{keep_alive, close}
 use Rattle.driver_core.specs.Commands.{heard, at_request}
 use Rattle.driver_core.specs.Conduct.{coming_to, conduct, drafted, moment_told, state_after}
 use Rattle.driver_core.specs.Directing.{directed, recalled, with_destination, without_destination}
-use Rattle.driver_core.specs.declared.directing.Directed.{Directed}
-use Rattle.driver_core.specs.declared.directing.Target.{Target}
+use Rattle.driver_core.specs.declared.rules.directing.Directed.{Directed}
+use Rattle.driver_core.specs.declared.rules.directing.Target.{Target}
 use Rattle.driver_core.specs.Counting.{counted, with_counter, valued, uncounted}
 use Rattle.driver_core.specs.Draft.{answered, told, replied, replied_opening, refused}
 use Rattle.driver_core.specs.Leaving.{left, all_left}
@@ -37,7 +37,7 @@ use Rattle.command_codec.specs.declared.set_counter.SetCounter.{SetCounter}
 use Rattle.log_readers.specs.Unread.{is_kept, without_unread as without_unread_in}
 use Rattle.policy_core.specs.declared.decision.Decision.{Decision}
 use Rattle.policy_core.specs.RuleList.{Rules}
-use Rattle.stream_registry.specs.declared.row.Source.{Source}
+use Rattle.stream_registry.specs.declared.row.LogRow.{LogRow}
 use Rattle.stream_registry.specs.declared.row.Registration.{Registration}
 use Rattle.stream_registry.specs.declared.row.Subscription.{Subscription}
 use Rattle.stream_registry.specs.declared.wanted.Adding.{Adding}
@@ -51,8 +51,8 @@ use Rattle.driver_core.proofs.EventCases.{Cases, attach_cases, command_cases, re
 use Rattle.driver_core.proofs.ListLemmas.{contains_none, left_was_there}
 
 -- a log of that source and that stream was there
-pub record WasLog (logs : List Source) (log : Source) : Type 0 where
-  pub before : Source
+pub record WasLog (logs : List LogRow) (log : LogRow) : Type 0 where
+  pub before : LogRow
   pub stood : Contains logs before
   pub source_is : before.number ≡ log.number
   pub stream_is : before.stream ≡ log.stream
@@ -67,7 +67,7 @@ pub record Stays (s after : State) : Type 0 where
       (row : Subscription) → Contains after.streams.subscriptions row →
       Contains s.streams.subscriptions row ⊎ (s.last_number < row.number)
   pub logs :
-      (log : Source) → Contains after.streams.sources log →
+      (log : LogRow) → Contains after.streams.sources log →
       WasLog s.streams.sources log ⊎ (s.last_number < log.number)
 
 -- ---- one list
@@ -81,18 +81,18 @@ pushed number_of last rows new row above has =
     inr (omega (arith, number, above)))
     (Contains-push_cases rows new row has)
 
-same_log : (logs : List Source) (log : Source) → Contains logs log → WasLog logs log
+same_log : (logs : List LogRow) (log : LogRow) → Contains logs log → WasLog logs log
 same_log logs log has = record { before = log; stood = has; source_is = refl; stream_is = refl }
 
-settled_source : (b : Bool) (now : ℕ) (log : Source) → log.number ≡ (cond b log (left_alone now log)).number
+settled_source : (b : Bool) (now : ℕ) (log : LogRow) → log.number ≡ (cond b log (left_alone now log)).number
 settled_source true now log = refl
 settled_source false now log = refl
 
-settled_stream : (b : Bool) (now : ℕ) (log : Source) → log.stream ≡ (cond b log (left_alone now log)).stream
+settled_stream : (b : Bool) (now : ℕ) (log : LogRow) → log.stream ≡ (cond b log (left_alone now log)).stream
 settled_stream true now log = refl
 settled_stream false now log = refl
 
-settled_was : (logs : List Source) (registrations : List Registration) (now : ℕ) (log : Source) →
+settled_was : (logs : List LogRow) (registrations : List Registration) (now : ℕ) (log : LogRow) →
     Contains (map (settled_one registrations now) logs) log → WasLog logs log
 settled_was logs registrations now log has =
     let settle = settled_one registrations now in
@@ -203,7 +203,7 @@ publication_stays s client correlation wanted (Make session) = record {
   subscriptions = λ row has. inl has;
   logs = λ log has.
       ⊎_elim (λ before. inl (same_log s.streams.sources log before)) (λ new. inr new)
-      (pushed (λ (one : Source). one.number) s.last_number s.streams.sources _ log (omega arith) has);
+      (pushed (λ (one : LogRow). one.number) s.last_number s.streams.sources _ log (omega arith) has);
 }
 
 -- ---- what goes
@@ -275,7 +275,7 @@ row_both : (There Was : Type 0) (last middle number : ℕ) → last ≤ middle �
 row_both There Was last middle number low first second =
     ⊎_elim first (λ new. inr (omega (arith, low, new))) second
 
-log_both : (s between : State) (log : Source) → Stays s between → WasLog between.streams.sources log →
+log_both : (s between : State) (log : LogRow) → Stays s between → WasLog between.streams.sources log →
     WasLog s.streams.sources log ⊎ (s.last_number < log.number)
 log_both s between log first was =
     let source = was.source_is in
@@ -340,7 +340,7 @@ image_stays s wanted place = record {
   subscriptions = λ row has. inl has;
   logs = λ log has.
       ⊎_elim (λ before. inl (same_log s.streams.sources log before)) (λ new. inr new)
-      (pushed (λ (one : Source). one.number) s.last_number s.streams.sources _ log (omega arith) has);
+      (pushed (λ (one : LogRow). one.number) s.last_number s.streams.sources _ log (omega arith) has);
 }
 
 termination_stays : (s : State) (client : Client) (correlation : ℕ) → Stays s (terminated s client correlation).after

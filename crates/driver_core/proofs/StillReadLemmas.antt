@@ -19,7 +19,7 @@ use Rattle.stream_registry.specs.declared.pairs.Pair.{Pair}
 use Rattle.stream_registry.specs.declared.row.Origin.{Origin}
 use Rattle.stream_registry.specs.declared.row.Origin.TheVariants.{Published, Remote}
 use Rattle.stream_registry.specs.declared.row.Registration.{Registration}
-use Rattle.stream_registry.specs.declared.row.Source.{Source}
+use Rattle.stream_registry.specs.declared.row.LogRow.{LogRow}
 use Rattle.stream_registry.specs.declared.row.Subscription.{Subscription}
 use Rattle.stream_registry.specs.declared.wanted.Adding.{Adding}
 use Rattle.stream_registry.specs.declared.wanted.Adding.TheVariants.{Join, Make}
@@ -37,16 +37,16 @@ kind_left : (now : ℕ) (origin : Origin) → is_published_by (left_by now origi
 kind_left now (Published exclusive since) = refl
 kind_left now (Remote address initial_term join) = refl
 
-unread_settled : (pairs : List Pair) (now : ℕ) (log : Source) (used : Bool) →
+unread_settled : (pairs : List Pair) (now : ℕ) (log : LogRow) (used : Bool) →
     is_unread pairs (cond used log (left_alone now log)) ≡ is_unread pairs log
 unread_settled pairs now log true = refl
 unread_settled pairs now log false = ap (λ (b : Bool). not b && not (has_pair pairs log)) (kind_left now log.origin)
 
-none_of : (b : Bool) (x y : Source) (rest others : List Source) → cond b (x ∷ rest) rest ≡ [] → (rest ≡ [] → others ≡ []) → cond b (y ∷ others) others ≡ []
+none_of : (b : Bool) (x y : LogRow) (rest others : List LogRow) → cond b (x ∷ rest) rest ≡ [] → (rest ≡ [] → others ≡ []) → cond b (y ∷ others) others ≡ []
 none_of true x y rest others none later = absurd cc
 none_of false x y rest others none later = later none
 
-none_settled : (pairs : List Pair) (registrations : List Registration) (now : ℕ) (logs : List Source) →
+none_settled : (pairs : List Pair) (registrations : List Registration) (now : ℕ) (logs : List LogRow) →
     filter (is_unread pairs) logs ≡ [] → filter (is_unread pairs) (map (settled_one registrations now) logs) ≡ []
 none_settled pairs registrations now [] none = refl
 none_settled pairs registrations now (log ∷ logs) none =
@@ -112,7 +112,7 @@ more_true false true rest later h is = refl
 more_true false false rest later h is = h is
 
 pairs_at_more : (clients : List Client) (policy : Rules) (epoch : ℕ) (test : Pair → Bool) (subs : List Subscription) (row : Subscription)
-    (log : Source) →
+    (log : LogRow) →
     list_any test (pairs_at clients policy epoch (subs ++ row ∷ []) log)
     ≡ (list_any test (pairs_at clients policy epoch subs log) || list_any test (pairs_at clients policy epoch (row ∷ []) log))
 pairs_at_more clients policy epoch test subs row log =
@@ -123,7 +123,7 @@ pairs_at_more clients policy epoch test subs row log =
     ∙ list_any-append test (pairs_at clients policy epoch subs log) (pairs_at clients policy epoch (row ∷ []) log)
 
 any_more : (clients : List Client) (policy : Rules) (epoch : ℕ) (test : Pair → Bool) (subs : List Subscription) (row : Subscription)
-    (logs : List Source) → list_any test (flat_map (pairs_at clients policy epoch subs) logs) ≡ true →
+    (logs : List LogRow) → list_any test (flat_map (pairs_at clients policy epoch subs) logs) ≡ true →
     list_any test (flat_map (pairs_at clients policy epoch (subs ++ row ∷ [])) logs) ≡ true
 any_more clients policy epoch test subs row [] any = any
 any_more clients policy epoch test subs row (log ∷ logs) any =
@@ -136,13 +136,13 @@ any_more clients policy epoch test subs row (log ∷ logs) any =
     ∙ ap (λ (b : Bool). b || list_any test later) (pairs_at_more clients policy epoch test subs row log)
     ∙ more_true first more (list_any test rest) (list_any test later) (any_more clients policy epoch test subs row logs) before
 
-none_step : (remote had has : Bool) (log : Source) (rest others : List Source) → (had ≡ true → has ≡ true) → (rest ≡ [] → others ≡ []) →
+none_step : (remote had has : Bool) (log : LogRow) (rest others : List LogRow) → (had ≡ true → has ≡ true) → (rest ≡ [] → others ≡ []) →
     cond (remote && not had) (log ∷ rest) rest ≡ [] → cond (remote && not has) (log ∷ others) others ≡ []
 none_step true true has log rest others more later none = rw (more refl) (later none)
 none_step true false has log rest others more later none = absurd (cc)
 none_step false had has log rest others more later none = later none
 
-none_more : (pairs others : List Pair) (logs : List Source) → ((log : Source) → has_pair pairs log ≡ true → has_pair others log ≡ true) →
+none_more : (pairs others : List Pair) (logs : List LogRow) → ((log : LogRow) → has_pair pairs log ≡ true → has_pair others log ≡ true) →
     filter (is_unread pairs) logs ≡ [] → filter (is_unread others) logs ≡ []
 none_more pairs others [] more none = refl
 none_more pairs others (log ∷ logs) more none =

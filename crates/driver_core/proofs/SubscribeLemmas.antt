@@ -1,8 +1,8 @@
 -- A subscription is made or refused by what is decided on it.
 use Rattle.std.proofs.Common.{◌≡◌, ℕ, ℤ, Bool, true, false, [], Result, Ok, Err, refl, ◌∙◌}
-use Rattle.driver_core.specs.declared.refused.Refused.{Refused}
+use Rattle.driver_core.specs.declared.state.refused.Refused.{Refused}
 use Rattle.driver_core.specs.Draft.{Draft, refused}
-use Rattle.driver_core.specs.declared.refusal.Refusal.TheVariants.{Full, InvalidChannel}
+use Rattle.driver_core.specs.declared.state.refusal.Refusal.TheVariants.{Full, InvalidChannel}
 use Rattle.driver_core.specs.Refusing.{denied, on, refused_by}
 use Rattle.driver_core.specs.State.{State}
 use Rattle.driver_core.specs.Subscribing.{add_subscription, decision_of, has_room_for_subscription, is_subscribable, subscribe, subscribe_on, subscribed, subscribing_of}

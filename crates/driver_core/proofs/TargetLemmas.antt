@@ -2,14 +2,14 @@
 use Rattle.std.proofs.Common.{◌≡◌, ℕ, Option, Some, None, Ok, refl, sym, subst}
 use Rattle.std.specs.List.{Contains}
 use Rattle.std.proofs.lemmas.Bool.{eqb-true}
-use Rattle.driver_core.specs.declared.directing.Target.{Target}
+use Rattle.driver_core.specs.declared.rules.directing.Target.{Target}
 use Rattle.driver_core.specs.Directing.{log_with, own_log, target_address, target_at, target_of, target_on}
 use Rattle.driver_core.specs.LogRequests.{registration_at}
 use Rattle.driver_core.specs.State.{State}
 use Rattle.channel_uri.specs.declared.address.Address.{Address}
 use Rattle.channel_uri.specs.Channel.{Shape}
 use Rattle.stream_registry.specs.declared.row.Registration.{Registration}
-use Rattle.stream_registry.specs.declared.row.Source.{Source}
+use Rattle.stream_registry.specs.declared.row.LogRow.{LogRow}
 use Rattle.stream_registry.specs.Places.{is_manual}
 use Rattle.driver_core.proofs.CacheLemmas.{found_in}
 
@@ -19,7 +19,7 @@ pub record IsRegistered (s : State) (source : ℕ) : Type 0 where
   pub stands : Contains s.streams.registrations registration
   pub source_is : registration.source ≡ source
 
-registered_log : (s : State) (client number : ℕ) (found : Option Registration) (log : Source) →
+registered_log : (s : State) (client number : ℕ) (found : Option Registration) (log : LogRow) →
     registration_at s.streams.registrations client number ≡ found → log_with s found ≡ Some log →
     IsRegistered s log.number
 registered_log s client number None log found is = absurd (cc is)
@@ -32,8 +32,8 @@ registered_log s client number (Some registration) log found is =
       source_is = sym (eqb-true log.number registration.source at.passes);
     }
 
-on_log : (s : State) (address : Address) (found : Option Source) (target : Target) → target_on address found ≡ Ok target →
-    ((log : Source) → found ≡ Some log → IsRegistered s log.number) → IsRegistered s target.source
+on_log : (s : State) (address : Address) (found : Option LogRow) (target : Target) → target_on address found ≡ Ok target →
+    ((log : LogRow) → found ≡ Some log → IsRegistered s log.number) → IsRegistered s target.source
 on_log s address None target is each = absurd (cc is)
 on_log s address (Some log) target is each =
     let same : (record {

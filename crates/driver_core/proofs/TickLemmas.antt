@@ -4,14 +4,14 @@ use Rattle.std.specs.Prelude.{◌||◌}
 use Rattle.std.specs.List.{flat_map, list_any}
 use Rattle.std.proofs.lemmas.Bool.{le-ltb}
 use Rattle.std.proofs.lemmas.List.Elements.{filter_agree}
-use Rattle.driver_core.specs.declared.event.Inputs.{Inputs}
-use Rattle.driver_core.specs.declared.told.Told.{Told}
+use Rattle.driver_core.specs.declared.state.event.Inputs.{Inputs}
+use Rattle.driver_core.specs.declared.state.report.Report.{Report}
 use Rattle.driver_core.specs.Leaving.{all_left, left}
 use Rattle.driver_core.specs.Pairs.{pairs_of}
 use Rattle.driver_core.specs.Renewal.{decided_on, outcome_by, outcome_gone, source_at, subscription_at, unavailable_beside, unavailable_for, unavailable_to}
 use Rattle.driver_core.specs.State.{State, at_moment}
 use Rattle.driver_core.specs.Ticking.{closed_past, late, tick, ticked}
-use Rattle.driver_core.specs.Told.{told_of}
+use Rattle.driver_core.specs.Report.{report_of}
 use Rattle.driver_core.proofs.GoneLemmas.{either_way, found_in_part, gone_outcome, log_not_decided, none_of_part, not_decided}
 use Rattle.driver_core.proofs.LeaveLemmas.{left_at}
 use Rattle.log_readers.specs.Numbering.{AreInOrder, Rises, number_of, source_of}
@@ -21,7 +21,7 @@ use Rattle.log_readers.proofs.ListLemmas.{filter_mapped, flat_alike, map_through
 use Rattle.log_readers.proofs.RisingLemmas.{rises_kept}
 use Rattle.log_readers.proofs.TurnoverLemmas.{closed_by_source, stays_open}
 use Rattle.stream_registry.specs.declared.pairs.Pair.{Pair}
-use Rattle.stream_registry.specs.declared.row.Source.{Source}
+use Rattle.stream_registry.specs.declared.row.LogRow.{LogRow}
 use Rattle.stream_registry.specs.declared.row.Origin.{Origin}
 use Rattle.stream_registry.specs.declared.row.Origin.TheVariants.{Published, Remote}
 use Rattle.stream_registry.specs.declared.row.Registration.{Registration}
@@ -47,7 +47,7 @@ kind_left : (now : ℕ) (origin : Origin) → is_published_by (left_by now origi
 kind_left now (Published exclusive since) = refl
 kind_left now (Remote address initial_term join) = refl
 
-past_alike : (registrations : List Registration) (now : ℕ) (log : Source) →
+past_alike : (registrations : List Registration) (now : ℕ) (log : LogRow) →
     is_past now (settled_one registrations now log) ≡ is_past now log
 past_alike registrations now log =
     elim (is_used registrations log.number) as (λ b. is_past now (cond b log (left_alone now log)) ≡ is_past now log) [
@@ -55,7 +55,7 @@ past_alike registrations now log =
       | false ↦ left_past log.measures.linger now log.origin
     ]
 
-silent_alike : (silent : List ℕ) (registrations : List Registration) (now : ℕ) (log : Source) →
+silent_alike : (silent : List ℕ) (registrations : List Registration) (now : ℕ) (log : LogRow) →
     is_image_of silent (settled_one registrations now log) ≡ is_image_of silent log
 silent_alike silent registrations now log =
     elim (is_used registrations log.number) as (λ b. is_image_of silent (cond b log (left_alone now log)) ≡ is_image_of silent log) [
@@ -63,12 +63,12 @@ silent_alike silent registrations now log =
       | false ↦ ap (λ (b : Bool). not b && list_any (is_number log.number) silent) (kind_left now log.origin)
     ]
 
-closing_alike : (silent : List ℕ) (registrations : List Registration) (now : ℕ) (log : Source) →
+closing_alike : (silent : List ℕ) (registrations : List Registration) (now : ℕ) (log : LogRow) →
     is_closing now silent (settled_one registrations now log) ≡ is_closing now silent log
 closing_alike silent registrations now log =
     ap₂ (λ (past image : Bool). past || image) (past_alike registrations now log) (silent_alike silent registrations now log)
 
-place_alike : (registrations : List Registration) (now : ℕ) (log : Source) →
+place_alike : (registrations : List Registration) (now : ℕ) (log : LogRow) →
     place_of (settled_one registrations now log) ≡ place_of log
 place_alike registrations now log =
     elim (is_used registrations log.number) as (λ b. place_of (cond b log (left_alone now log)) ≡ place_of log) [
@@ -76,13 +76,13 @@ place_alike registrations now log =
       | false ↦ refl
     ]
 
-settled_closing : (silent : List ℕ) (registrations : List Registration) (now : ℕ) (logs : List Source) →
+settled_closing : (silent : List ℕ) (registrations : List Registration) (now : ℕ) (logs : List LogRow) →
     map place_of (filter (is_closing now silent) (map (settled_one registrations now) logs))
     ≡ map place_of (filter (is_closing now silent) logs)
 settled_closing silent registrations now logs =
     ap (map place_of) (filter_mapped (is_closing now silent) (settled_one registrations now) logs)
-    ∙ ap (λ (past : List Source). map place_of (map (settled_one registrations now) past))
-    (filter_agree (λ (log : Source). is_closing now silent (settled_one registrations now log)) (is_closing now silent)
+    ∙ ap (λ (past : List LogRow). map place_of (map (settled_one registrations now) past))
+    (filter_agree (λ (log : LogRow). is_closing now silent (settled_one registrations now log)) (is_closing now silent)
     (closing_alike silent registrations now) logs)
     ∙ map_through place_of (settled_one registrations now) (filter (is_closing now silent) logs) (place_alike registrations now)
 
@@ -149,7 +149,7 @@ closed_at : (s : Streams) (now : ℕ) (silent : List ℕ) (last source : ℕ) �
     ≡ cond (stays_open (closing_of s now silent) source) (source_at s.sources source) None
 unfolding closed
 closed_at s now silent last source up =
-    ap (λ (logs : List Source). source_at logs source) (closed_by_source s now silent 0 last up)
+    ap (λ (logs : List LogRow). source_at logs source) (closed_by_source s now silent 0 last up)
     ∙ found_in_part source_of (stays_open (closing_of s now silent)) source s.sources
 
 -- ---- what goes
@@ -219,7 +219,7 @@ either_gone false s silent last pair order is going =
 tick_outcome : (s : State) (before : State) (silent : List ℕ) (last : ℕ) (inputs : Inputs) → pairs_of before ≡ pairs_of s →
     AreInOrder s.streams s.clients.rows last →
     outcome_by before inputs (tick s silent)
-    ≡ outcome_gone (record (told_of (tick s silent)) {
+    ≡ outcome_gone (record (report_of (tick s silent)) {
       replies = (tick s silent).replies ++ flat_map (unavailable_beside s (late s)) (filter (is_going s.streams (late s) (tick s silent).closes) (pairs_of s));
     }) (filter (is_going s.streams (late s) (tick s silent).closes) (pairs_of s))
 tick_outcome s before silent last inputs same order =
@@ -230,8 +230,8 @@ tick_outcome s before silent last inputs same order =
     (none_of_part (is_going s.streams (late s) (tick s silent).closes) (decided_on (tick s silent).after) (pairs_of s)
     (λ pair going. either_gone (is_of_any s.streams (late s) pair) s silent last pair order refl going))
 
-pub going_outcome : (s : State) (last now : ℕ) (inputs : Inputs) (told : Told) (clients : List ℕ) →
-    AreInOrder s.streams s.clients.rows last → told ≡ told_of (tick (at_moment s now) inputs.silent) →
+pub going_outcome : (s : State) (last now : ℕ) (inputs : Inputs) (told : Report) (clients : List ℕ) →
+    AreInOrder s.streams s.clients.rows last → told ≡ report_of (tick (at_moment s now) inputs.silent) →
     clients ≡ late (at_moment s now) →
     outcome_by s inputs (tick (at_moment s now) inputs.silent)
     ≡ outcome_gone (record told {

@@ -1,15 +1,15 @@
 -- A subscription goes: what goes with it is known by its number, and nobody is told of it.
 use Rattle.std.proofs.Common.{◌≡◌, ℕ, max, ◌==◌, ◌&&◌, Bool, true, false, not, cond, List, [], filter, Option, None, refl, ap, ◌∙◌}
 use Rattle.std.proofs.lemmas.Bool.{eq-eqb, eqb-true}
-use Rattle.driver_core.specs.declared.event.Inputs.{Inputs}
-use Rattle.driver_core.specs.declared.refusal.Refusal.TheVariants.{UnknownSubscription}
-use Rattle.driver_core.specs.declared.replies.Reply.TheVariants.{OperationSuccess}
+use Rattle.driver_core.specs.declared.state.event.Inputs.{Inputs}
+use Rattle.driver_core.specs.declared.state.refusal.Refusal.TheVariants.{UnknownSubscription}
+use Rattle.driver_core.specs.declared.state.replies.Reply.TheVariants.{OperationSuccess}
 use Rattle.driver_core.specs.Commands.{at_request, heard}
 use Rattle.driver_core.specs.Draft.{refused, replied, told}
 use Rattle.driver_core.specs.Pairs.{lacking, pairs_of}
 use Rattle.driver_core.specs.Renewal.{decided_on, outcome_by, outcome_gone, subscription_at, unavailable_for}
 use Rattle.driver_core.specs.State.{State, at_moment}
-use Rattle.driver_core.specs.Told.{tells_reply}
+use Rattle.driver_core.specs.Report.{tells_reply}
 use Rattle.driver_core.specs.Unsubscribing.{remove_subscription, unsubscribed}
 use Rattle.driver_core.proofs.GoneLemmas.{found_in_part, none_of_part, not_decided, not_told, silent_outcome}
 use Rattle.driver_core.proofs.PairLemmas.{pairs_by, principal_heard}

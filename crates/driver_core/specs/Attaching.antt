@@ -1,7 +1,7 @@
 -- A client comes.
 use Rattle.std.specs.Prelude.{ℕ, ◌+◌, if◌then◌else◌}
 use Rattle.driver_core.specs.Draft.{Draft}
-use Rattle.driver_core.specs.declared.outcome.Response.TheVariants.{Attached, Full, Stopped}
+use Rattle.driver_core.specs.declared.state.outcome.Response.TheVariants.{Attached, Full, Stopped}
 use Rattle.driver_core.specs.Draft.{answered}
 use Rattle.driver_core.specs.State.{State}
 use Rattle.client_registry.specs.Clients.{admitted, has_room}

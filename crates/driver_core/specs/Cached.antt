@@ -8,12 +8,12 @@ use Rattle.policy_core.specs.declared.verdict.Verdict.{Verdict}
 use Rattle.policy_core.specs.Moments.{at}
 use Rattle.policy_core.specs.Question.{Question}
 use Rattle.policy_core.specs.Rules.{verdict_of}
-use Rattle.stream_registry.specs.declared.row.Source.{Source}
+use Rattle.stream_registry.specs.declared.row.LogRow.{LogRow}
 use Rattle.stream_registry.specs.declared.row.Registration.{Registration}
 use Rattle.stream_registry.specs.declared.row.Subscription.{Subscription}
 
 -- what the policy is asked of a principal's offer by the registration, whose log that is
-abbrev pub offer_question : ℕ → Registration → Source → Question
+abbrev pub offer_question : ℕ → Registration → LogRow → Question
 offer_question principal registration log =
     record { principal = principal; act = Offer; channel = registration.channel; stream = log.stream }
 
@@ -31,7 +31,7 @@ pub record IsCached (s : State) (entry : Key × Verdict) : Type 0 where
       (registration : Registration) → Contains s.streams.registrations registration →
       registration.number ≡ entry.0.subject → entry.0.act ≡ Offer → registration.source ≤ s.last_number
   pub offer :
-      (registration : Registration) (log : Source) → Contains s.streams.registrations registration →
+      (registration : Registration) (log : LogRow) → Contains s.streams.registrations registration →
       Contains s.streams.sources log → registration.number ≡ entry.0.subject →
       log.number ≡ registration.source → entry.0.epoch ≡ s.epoch → entry.0.act ≡ Offer →
       entry.1 ≡ verdict_of (at s.given entry.0.moment) s.epoch (offer_question entry.0.principal registration log)

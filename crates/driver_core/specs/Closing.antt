@@ -1,7 +1,7 @@
 -- CLIENT_KEEPALIVE and CLIENT_CLOSE.
 use Rattle.std.specs.Prelude.{ℕ, []}
 use Rattle.driver_core.specs.Draft.{Draft}
-use Rattle.driver_core.specs.declared.replies.Reply.TheVariants.{OperationSuccess}
+use Rattle.driver_core.specs.declared.state.replies.Reply.TheVariants.{OperationSuccess}
 use Rattle.driver_core.specs.Draft.{told, replied}
 use Rattle.driver_core.specs.Leaving.{left}
 use Rattle.driver_core.specs.State.{State}

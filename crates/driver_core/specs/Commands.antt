@@ -1,9 +1,9 @@
 -- The bytes of a command come over a client's handle.
 use Rattle.std.specs.Prelude.{ℕ, ◌==◌, Bool, true, false, List, [], Option, Some, None, Result, Ok, Err, if◌then◌else◌}
 use Rattle.driver_core.specs.Draft.{Draft}
-use Rattle.driver_core.specs.declared.asking.Asking.{Asking}
-use Rattle.driver_core.specs.declared.refusal.Refusal.{Refusal}
-use Rattle.driver_core.specs.declared.refusal.Refusal.TheVariants.{UnknownCommandType, MalformedCommand, WrongClient}
+use Rattle.driver_core.specs.declared.rules.asking.Asking.{Asking}
+use Rattle.driver_core.specs.declared.state.refusal.Refusal.{Refusal}
+use Rattle.driver_core.specs.declared.state.refusal.Refusal.TheVariants.{UnknownCommandType, MalformedCommand, WrongClient}
 use Rattle.driver_core.specs.Draft.{refused}
 use Rattle.driver_core.specs.Closing.{keep_alive, close}
 use Rattle.driver_core.specs.Counting.{add_counter, set_counter, remove_counter}

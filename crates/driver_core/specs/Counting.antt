@@ -1,11 +1,11 @@
 -- ADD_COUNTER, SET_COUNTER and REMOVE_COUNTER.
 use Rattle.std.specs.Prelude.{ℕ, ◌+◌, Bool, not, ◌&&◌, nat_lt, [], ◌∷◌, ◌++◌, Result, Ok, Err, if◌then◌else◌}
 use Rattle.driver_core.specs.Draft.{Draft}
-use Rattle.driver_core.specs.declared.refusal.Refusal.TheVariants.{UnknownCounter, Denied, Full}
-use Rattle.driver_core.specs.declared.replies.Reply.TheVariants.{OperationSuccess, CounterReady, UnavailableCounter}
+use Rattle.driver_core.specs.declared.state.refusal.Refusal.TheVariants.{UnknownCounter, Denied, Full}
+use Rattle.driver_core.specs.declared.state.replies.Reply.TheVariants.{OperationSuccess, CounterReady, UnavailableCounter}
 use Rattle.driver_core.specs.Draft.{told, replied, refused}
 use Rattle.driver_core.specs.Deciding.{decision_by}
-use Rattle.driver_core.specs.declared.refused.Refused.{Refused}
+use Rattle.driver_core.specs.declared.state.refused.Refused.{Refused}
 use Rattle.driver_core.specs.Refusing.{on, denied}
 use Rattle.driver_core.specs.State.{State}
 use Rattle.channel_uri.specs.Channel.{counter_shape}

@@ -1,12 +1,12 @@
 -- ADD_DESTINATION and REMOVE_DESTINATION, and the one destination of a publication with an endpoint.
 use Rattle.std.specs.Prelude.{ℕ, ◌+◌, Bool, true, not, ◌&&◌, false, [], ◌∷◌, Option, Some, None, Result, Ok, Err, if◌then◌else◌}
 use Rattle.driver_core.specs.Draft.{Draft}
-use Rattle.driver_core.specs.declared.directing.Directed.{Directed}
-use Rattle.driver_core.specs.declared.directing.Target.{Target}
-use Rattle.driver_core.specs.declared.refusal.Refusal.{Refusal}
-use Rattle.driver_core.specs.declared.refusal.Refusal.TheVariants.{InvalidChannel, UnknownPublication, Conflict, Full}
-use Rattle.driver_core.specs.declared.refused.Refused.{Refused}
-use Rattle.driver_core.specs.declared.replies.Reply.TheVariants.{OperationSuccess}
+use Rattle.driver_core.specs.declared.rules.directing.Directed.{Directed}
+use Rattle.driver_core.specs.declared.rules.directing.Target.{Target}
+use Rattle.driver_core.specs.declared.state.refusal.Refusal.{Refusal}
+use Rattle.driver_core.specs.declared.state.refusal.Refusal.TheVariants.{InvalidChannel, UnknownPublication, Conflict, Full}
+use Rattle.driver_core.specs.declared.state.refused.Refused.{Refused}
+use Rattle.driver_core.specs.declared.state.replies.Reply.TheVariants.{OperationSuccess}
 use Rattle.driver_core.specs.Deciding.{decision_by}
 use Rattle.driver_core.specs.Draft.{replied}
 use Rattle.driver_core.specs.LogRequests.{registration_at}
@@ -27,7 +27,7 @@ use Rattle.destinations.specs.Destinations.{DestinationList, adding, added, has,
 use Rattle.policy_core.specs.declared.act.Act.TheVariants.{Destination as Direct}
 use Rattle.policy_core.specs.declared.decision.Decision.{Decision}
 use Rattle.stream_registry.specs.declared.row.Registration.{Registration}
-use Rattle.stream_registry.specs.declared.row.Source.{Source}
+use Rattle.stream_registry.specs.declared.row.LogRow.{LogRow}
 use Rattle.stream_registry.specs.declared.wanted.Adding.{Adding}
 use Rattle.stream_registry.specs.declared.wanted.Adding.TheVariants.{Join, Make}
 use Rattle.stream_registry.specs.declared.wanted.Wanted.{Wanted}
@@ -82,16 +82,16 @@ unfoldable pub target_address : Shape → Option Address
 target_address channel =
     if not channel.spy && is_udp channel.media then endpoint_of channel else None
 
-abbrev pub log_with : State → Option Registration → Option Source
+abbrev pub log_with : State → Option Registration → Option LogRow
 log_with s None = None
 log_with s (Some registration) = source_at s.streams.sources registration.source
 
 -- the log that the client's own registration of this number is with
-unfoldable pub own_log : State → ℕ → ℕ → Option Source
+unfoldable pub own_log : State → ℕ → ℕ → Option LogRow
 own_log s client number = log_with s (registration_at s.streams.registrations client number)
 
 -- what another client registered is as unknown as what nobody did
-abbrev pub target_on : Address → Option Source → Result Target Refused
+abbrev pub target_on : Address → Option LogRow → Result Target Refused
 target_on address None = Err (plainly UnknownPublication)
 target_on address (Some log) = Ok (record {
   source = log.number;

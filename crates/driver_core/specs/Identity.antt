@@ -2,9 +2,9 @@
 use Rattle.std.specs.Prelude.{ℕ, Bool, true, false, List, codes, Option, Some, None}
 use Rattle.channel_uri.specs.declared.address.Address.{Address}
 use Rattle.channel_uri.specs.Address.{address_text}
-use Rattle.driver_core.specs.declared.source_identity.SourceIdentity.{SourceIdentity}
-use Rattle.driver_core.specs.declared.source_identity.SourceIdentity.TheVariants.{Ipc, Spy, Publisher}
-use Rattle.stream_registry.specs.declared.row.Source.{Source}
+use Rattle.driver_core.specs.declared.state.source_identity.SourceIdentity.{SourceIdentity}
+use Rattle.driver_core.specs.declared.state.source_identity.SourceIdentity.TheVariants.{Ipc, Spy, Publisher}
+use Rattle.stream_registry.specs.declared.row.LogRow.{LogRow}
 use Rattle.stream_registry.specs.Origins.{address_of}
 use Rattle.stream_registry.specs.Places.{is_udp}
 
@@ -14,7 +14,7 @@ identity_by udp (Some address) = Publisher address
 identity_by true None = Spy
 identity_by false None = Ipc
 
-abbrev pub identity_of : Source → SourceIdentity
+abbrev pub identity_of : LogRow → SourceIdentity
 identity_of log = identity_by (is_udp log.channel.media) (address_of log)
 
 abbrev pub identity_text : SourceIdentity → List ℕ

@@ -3,16 +3,16 @@ use Rattle.std.specs.Prelude.{ℕ, ℤ, Option, Some, None, Result, Ok, Err, if�
 use Rattle.channel_uri.specs.declared.address.Address.{Address}
 use Rattle.channel_uri.specs.Address.{is_same}
 use Rattle.channel_uri.specs.Channel.{endpoint_shape}
-use Rattle.driver_core.specs.declared.image_request.Astray.{Astray}
-use Rattle.driver_core.specs.declared.image_request.Astray.TheVariants.{NoStream, Stranger}
+use Rattle.driver_core.specs.declared.asked.image_request.Astray.{Astray}
+use Rattle.driver_core.specs.declared.asked.image_request.Astray.TheVariants.{NoStream, Stranger}
 use Rattle.driver_core.specs.State.{State}
-use Rattle.stream_registry.specs.declared.row.Source.{Source}
+use Rattle.stream_registry.specs.declared.row.LogRow.{LogRow}
 use Rattle.stream_registry.specs.Images.{image_at}
 use Rattle.stream_registry.specs.Origins.{address_of}
 
 -- ---- by any sender
 
-abbrev pub number_in : Option Source → Option ℕ
+abbrev pub number_in : Option LogRow → Option ℕ
 number_in None = None
 number_in (Some image) = Some image.number
 
@@ -23,11 +23,11 @@ image_named s local session stream = number_in (image_at s.streams (endpoint_sha
 -- ---- by its publisher
 
 -- it is from the address at which its publisher is
-abbrev pub sent_to : Address → Source → Option Address → Result ℕ Astray
+abbrev pub sent_to : Address → LogRow → Option Address → Result ℕ Astray
 sent_to from image None = Err Stranger
 sent_to from image (Some publisher) = if is_same publisher from then Ok image.number else Err Stranger
 
-abbrev pub received_by : Address → Option Source → Result ℕ Astray
+abbrev pub received_by : Address → Option LogRow → Result ℕ Astray
 received_by from None = Err NoStream
 received_by from (Some image) = sent_to from image (address_of image)
 

@@ -6,13 +6,13 @@ use Rattle.client_registry.specs.declared.client.Client.{Client}
 use Rattle.client_registry.specs.Clients.{client_at}
 use Rattle.counters.specs.declared.counter.Counter.{Counter}
 use Rattle.policy_core.specs.declared.decision.Decision.{Decision}
-use Rattle.stream_registry.specs.declared.row.Source.{Source}
+use Rattle.stream_registry.specs.declared.row.LogRow.{LogRow}
 
 -- the policy in force does not show it to the principal
 abbrev pub hides_counter : State → ℕ → Counter → Bool
 hides_counter s principal counter = not (counter_decision s principal counter).verdict.allow
 
-abbrev pub hides_source : State → ℕ → Source → Bool
+abbrev pub hides_source : State → ℕ → LogRow → Bool
 hides_source s principal source = not (shows_source s principal source)
 
 -- the decision stands before the first one on a greater number

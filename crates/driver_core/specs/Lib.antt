@@ -25,6 +25,7 @@ pub mod Refusing
 pub mod Reloading
 pub mod Renewal
 pub mod Replies
+pub mod Report
 pub mod Requests
 pub mod SendRequests
 pub mod SettingUp
@@ -34,7 +35,6 @@ pub mod State
 pub mod Subscribing
 pub mod Terminating
 pub mod Ticking
-pub mod Told
 pub mod Unpublishing
 pub mod Unread
 pub mod Unsubscribing

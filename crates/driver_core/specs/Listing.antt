@@ -1,10 +1,10 @@
 -- What a client is shown of the counters. It looks, and changes nothing.
 use Rattle.std.specs.Prelude.{ℕ, ℤ, pos, min, Bool, nat_lt, List, [], ◌∷◌, length, map, filter, Option, Some, None, if◌then◌else◌}
-use Rattle.driver_core.specs.declared.listing.Listed.{Listed}
-use Rattle.driver_core.specs.declared.listing.Listed.TheVariants as listed_as
-use Rattle.driver_core.specs.declared.listing.ListedCounter.{ListedCounter}
-use Rattle.driver_core.specs.declared.listing.Shown.{Shown}
-use Rattle.driver_core.specs.declared.listing.Shown.TheVariants as shown_as
+use Rattle.driver_core.specs.declared.asked.listing.Listed.{Listed}
+use Rattle.driver_core.specs.declared.asked.listing.Listed.TheVariants as listed_as
+use Rattle.driver_core.specs.declared.asked.listing.ListedCounter.{ListedCounter}
+use Rattle.driver_core.specs.declared.asked.listing.Shown.{Shown}
+use Rattle.driver_core.specs.declared.asked.listing.Shown.TheVariants as shown_as
 use Rattle.driver_core.specs.Pairs.{pairs_of}
 use Rattle.driver_core.specs.Renewal.{source_at}
 use Rattle.driver_core.specs.State.{State}
@@ -18,7 +18,7 @@ use Rattle.policy_core.specs.declared.act.Act.TheVariants.{List as SeeCounter}
 use Rattle.policy_core.specs.declared.decision.Decision.{Decision}
 use Rattle.policy_core.specs.Question.{Question}
 use Rattle.policy_core.specs.Rules.{verdict_of}
-use Rattle.stream_registry.specs.declared.row.Source.{Source}
+use Rattle.stream_registry.specs.declared.row.LogRow.{LogRow}
 use Rattle.stream_registry.specs.Lingering.{registrations_of}
 use Rattle.stream_registry.specs.Origins.{is_published}
 
@@ -42,16 +42,16 @@ abbrev pub read_by : State → ℕ → ℤ
 read_by s source = pos (min (length (filter (is_of_source source) (pairs_of s))) 9223372036854775807)
 
 -- which counter reports on the log
-abbrev pub type_of : Source → ℤ
+abbrev pub type_of : LogRow → ℤ
 type_of source = if is_published source then pos 10001 else pos 10002
 
 -- how many are registered with the publication, or read the image
-abbrev pub uses_of : State → Source → ℤ
+abbrev pub uses_of : State → LogRow → ℤ
 uses_of s source = if is_published source then registered_with s source.number else read_by s source.number
 
 -- each live log is a counter of the driver's own: its number is the source's, the value of a publication how many are
 -- registered with it, and that of an image how many read it
-abbrev pub source_row : State → Source → ListedCounter
+abbrev pub source_row : State → LogRow → ListedCounter
 source_row s source = record {
   number = source.number;
   type_id = type_of source;
@@ -60,7 +60,7 @@ source_row s source = record {
 }
 
 -- what the policy is asked before that is shown: channel and stream are the log's
-abbrev pub source_question : ℕ → Source → Question
+abbrev pub source_question : ℕ → LogRow → Question
 source_question principal source = record {
   principal = principal;
   act = SeeCounter;
@@ -69,7 +69,7 @@ source_question principal source = record {
 }
 
 -- what the policy in force decides on it, for those who audit
-abbrev pub source_decision : State → ℕ → Source → Decision
+abbrev pub source_decision : State → ℕ → LogRow → Decision
 source_decision s principal source = record {
   principal = principal;
   act = SeeCounter;
@@ -78,7 +78,7 @@ source_decision s principal source = record {
   verdict = verdict_of s.policy s.epoch (source_question principal source);
 }
 
-abbrev pub shows_source : State → ℕ → Source → Bool
+abbrev pub shows_source : State → ℕ → LogRow → Bool
 shows_source s principal source = (source_decision s principal source).verdict.allow
 
 -- the row stands before the first one of a greater number
@@ -123,7 +123,7 @@ counter_decision s principal counter = record {
 abbrev pub value_under : Decision → ℤ → Shown
 value_under decision value = if decision.verdict.allow then shown_as.Value value else shown_as.Denied decision
 
-abbrev pub source_value : State → ℕ → Option Source → Shown
+abbrev pub source_value : State → ℕ → Option LogRow → Shown
 source_value s principal None = shown_as.UnknownCounter
 source_value s principal (Some source) =
     value_under (source_decision s principal source) (uses_of s source)

@@ -1,7 +1,7 @@
 -- What a client asks of a log: to put a message into it, or to read it. Own rules.
 use Rattle.std.specs.Prelude.{ℕ, ℤ, Bool, ◌==◌, ◌&&◌, List, find, Option, Some, None, if◌then◌else◌}
 use Rattle.std.specs.List.{list_any}
-use Rattle.driver_core.specs.declared.log_request.LogRequest.{LogRequest}
+use Rattle.driver_core.specs.declared.asked.log_request.LogRequest.{LogRequest}
 use Rattle.driver_core.specs.Pairs.{pairs_of}
 use Rattle.driver_core.specs.Renewal.{source_at, subscription_at}
 use Rattle.driver_core.specs.State.{State}
@@ -12,7 +12,7 @@ use Rattle.policy_core.specs.declared.act.Act.{Act}
 use Rattle.policy_core.specs.declared.act.Act.TheVariants.{Offer, Receive}
 use Rattle.policy_core.specs.declared.decision.Decision.{Decision}
 use Rattle.policy_core.specs.Rules.{verdict_of}
-use Rattle.stream_registry.specs.declared.row.Source.{Source}
+use Rattle.stream_registry.specs.declared.row.LogRow.{LogRow}
 use Rattle.stream_registry.specs.declared.row.Registration.{Registration}
 use Rattle.stream_registry.specs.declared.row.Subscription.{Subscription}
 use Rattle.stream_registry.specs.Pairs.{is_of}
@@ -34,7 +34,7 @@ abbrev pub registration_at : List Registration → ℕ → ℕ → Option Regist
 registration_at registrations client number =
     find (λ registration. registration.number == number && registration.client == client) registrations
 
-abbrev pub offered_on : State → Client → Registration → Option Source → Option LogRequest
+abbrev pub offered_on : State → Client → Registration → Option LogRow → Option LogRequest
 offered_on s client registration None = None
 offered_on s client registration (Some publication) = Some (record {
   source = publication.number;

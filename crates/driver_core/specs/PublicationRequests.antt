@@ -5,31 +5,31 @@ use Rattle.std.specs.Ordering.{int_eq}
 use Rattle.channel_uri.specs.declared.address.Address.{Address}
 use Rattle.channel_uri.specs.Address.{is_same}
 use Rattle.channel_uri.specs.Channel.{Shape}
-use Rattle.driver_core.specs.declared.log_request.LogRequest.{LogRequest}
-use Rattle.driver_core.specs.declared.publication_request.JoinRequest.{JoinRequest}
-use Rattle.driver_core.specs.declared.peer.Peer.{Peer}
+use Rattle.driver_core.specs.declared.asked.log_request.LogRequest.{LogRequest}
+use Rattle.driver_core.specs.declared.asked.publication_request.JoinRequest.{JoinRequest}
+use Rattle.driver_core.specs.declared.state.peer.Peer.{Peer}
 use Rattle.driver_core.specs.Renewal.{source_at}
 use Rattle.driver_core.specs.State.{State}
 use Rattle.policy_core.specs.declared.act.Act.{Act}
 use Rattle.policy_core.specs.declared.act.Act.TheVariants.{Join, Retransmit}
 use Rattle.policy_core.specs.declared.decision.Decision.{Decision}
 use Rattle.policy_core.specs.Rules.{verdict_of}
-use Rattle.stream_registry.specs.declared.row.Source.{Source}
+use Rattle.stream_registry.specs.declared.row.LogRow.{LogRow}
 use Rattle.stream_registry.specs.Origins.{address_of, is_published}
 use Rattle.stream_registry.specs.Places.{is_dynamic, is_udp}
 
 -- ---- which publication
 
 -- it is published over datagrams, under that session and stream
-abbrev pub is_sent_as : ℤ → ℤ → Source → Bool
+abbrev pub is_sent_as : ℤ → ℤ → LogRow → Bool
 is_sent_as session stream log =
     is_published log && is_udp log.channel.media && int_eq log.session session && int_eq log.stream stream
 
 -- the publication over datagrams of that session and stream, whichever address a datagram came to
-abbrev pub publication_at : State → ℤ → ℤ → Option Source
+abbrev pub publication_at : State → ℤ → ℤ → Option LogRow
 publication_at s session stream = find (is_sent_as session stream) s.streams.sources
 
-abbrev pub number_of : Option Source → Option ℕ
+abbrev pub number_of : Option LogRow → Option ℕ
 number_of None = None
 number_of (Some log) = Some log.number
 
@@ -57,10 +57,10 @@ log_decision s principal act number channel stream = record {
 -- ---- frames that are sent again
 
 -- the principal is that of the address that asks, the channel and the stream are the log's
-abbrev pub resend_decision : State → Address → Source → Decision
+abbrev pub resend_decision : State → Address → LogRow → Decision
 resend_decision s from log = log_decision s (principal_at s.peers from) Retransmit log.number log.channel log.stream
 
-abbrev pub resent_by : State → Address → Option Source → Option LogRequest
+abbrev pub resent_by : State → Address → Option LogRow → Option LogRequest
 resent_by s from None = None
 resent_by s from (Some log) = Some (record { source = log.number; decision = resend_decision s from log })
 
@@ -71,14 +71,14 @@ resending_of s from session stream = resent_by s from (publication_at s session 
 -- ---- addresses that become destinations
 
 -- the principal is that of the address that joins, the channel and the stream are the log's
-abbrev pub join_decision : State → Address → Source → Decision
+abbrev pub join_decision : State → Address → LogRow → Decision
 join_decision s from log = log_decision s (principal_at s.peers from) Join log.number log.channel log.stream
 
 -- only of a publication whose destinations are learnt is anything decided
-abbrev pub joined_as : State → Address → Source → Option Decision
+abbrev pub joined_as : State → Address → LogRow → Option Decision
 joined_as s from log = if is_dynamic log.channel then Some (join_decision s from log) else None
 
-abbrev pub joined_by : State → Address → Option Source → Option JoinRequest
+abbrev pub joined_by : State → Address → Option LogRow → Option JoinRequest
 joined_by s from None = None
 joined_by s from (Some log) = Some (record { source = log.number; decision = joined_as s from log })
 
@@ -88,7 +88,7 @@ joining_of s from session stream = joined_by s from (publication_at s session st
 
 -- ---- who publishes an image
 
-abbrev pub publisher_on : Option Source → Option Address
+abbrev pub publisher_on : Option LogRow → Option Address
 publisher_on None = None
 publisher_on (Some log) = address_of log
 

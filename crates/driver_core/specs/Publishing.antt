@@ -1,16 +1,16 @@
 -- ADD_PUBLICATION and ADD_EXCLUSIVE_PUBLICATION.
 use Rattle.std.specs.Prelude.{ℕ, ◌+◌, ℤ, Bool, true, false, not, ◌&&◌, [], ◌∷◌, Option, Some, None, Result, Ok, Err, is_some, unwrap_or, if◌then◌else◌}
 use Rattle.driver_core.specs.Draft.{Draft}
-use Rattle.driver_core.specs.declared.refusal.Refusal.{Refusal}
-use Rattle.driver_core.specs.declared.refusal.Refusal.TheVariants.{InvalidChannel, Denied, Conflict, Full, NoRoom}
-use Rattle.driver_core.specs.declared.replies.Reply.{Reply}
-use Rattle.driver_core.specs.declared.replies.Reply.TheVariants.{PublicationReady, ExclusivePublicationReady}
+use Rattle.driver_core.specs.declared.state.refusal.Refusal.{Refusal}
+use Rattle.driver_core.specs.declared.state.refusal.Refusal.TheVariants.{InvalidChannel, Denied, Conflict, Full, NoRoom}
+use Rattle.driver_core.specs.declared.state.replies.Reply.{Reply}
+use Rattle.driver_core.specs.declared.state.replies.Reply.TheVariants.{PublicationReady, ExclusivePublicationReady}
 use Rattle.driver_core.specs.Deciding.{decision_by}
 use Rattle.driver_core.specs.Directing.{has_room_for_sole, with_sole}
 use Rattle.driver_core.specs.Draft.{replied_opening, refused}
 use Rattle.driver_core.specs.Pairs.{is_within_pairs}
-use Rattle.driver_core.specs.declared.publishing.Granted.{Granted}
-use Rattle.driver_core.specs.declared.refused.Refused.{Refused}
+use Rattle.driver_core.specs.declared.rules.publishing.Granted.{Granted}
+use Rattle.driver_core.specs.declared.state.refused.Refused.{Refused}
 use Rattle.driver_core.specs.Refusing.{on, denied}
 use Rattle.driver_core.specs.State.{State, has_number}
 use Rattle.channel_uri.specs.declared.error.UriError.{UriError}
@@ -24,7 +24,7 @@ use Rattle.policy_core.specs.declared.decision.Decision.{Decision}
 use Rattle.stream_registry.specs.declared.fault.StreamFault.{StreamFault}
 use Rattle.stream_registry.specs.declared.fault.StreamFault.TheVariants as fault
 use Rattle.stream_registry.specs.declared.lingering.LogPlace.{LogPlace}
-use Rattle.stream_registry.specs.declared.row.Source.{Source}
+use Rattle.stream_registry.specs.declared.row.LogRow.{LogRow}
 use Rattle.stream_registry.specs.declared.wanted.Adding.{Adding}
 use Rattle.stream_registry.specs.declared.wanted.Adding.TheVariants.{Join, Make}
 use Rattle.stream_registry.specs.declared.wanted.Wanted.{Wanted}
@@ -50,7 +50,7 @@ abbrev pub place_of_new : State → Wanted → Option ℕ
 place_of_new s wanted = place_for s.streams s.settings.arena_pages wanted
 
 -- the row of the new log, under the next number
-abbrev pub new_log : State → Wanted → ℤ → Source
+abbrev pub new_log : State → Wanted → ℤ → LogRow
 new_log s wanted session = log_of s.streams (s.last_number + 1) wanted (unwrap_or (place_of_new s wanted) 0) session
 
 -- a log that is joined needs none

@@ -1,8 +1,8 @@
 -- Why a command is refused, and what the policy decided on it.
 use Rattle.std.specs.Prelude.{ℕ, List, [], ◌∷◌, Option, Some, None}
-use Rattle.driver_core.specs.declared.refusal.Refusal.{Refusal}
-use Rattle.driver_core.specs.declared.refusal.Refusal.TheVariants.{Denied}
-use Rattle.driver_core.specs.declared.refused.Refused.{Refused}
+use Rattle.driver_core.specs.declared.state.refusal.Refusal.{Refusal}
+use Rattle.driver_core.specs.declared.state.refusal.Refusal.TheVariants.{Denied}
+use Rattle.driver_core.specs.declared.state.refused.Refused.{Refused}
 use Rattle.driver_core.specs.Draft.{Draft, refused}
 use Rattle.driver_core.specs.State.{State}
 use Rattle.policy_core.specs.declared.decision.Decision.{Decision}

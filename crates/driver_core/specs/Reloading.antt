@@ -1,7 +1,7 @@
 -- A policy is put in force.
 use Rattle.std.specs.Prelude.{◌+◌, Bool, ◌&&◌, nat_lt, if◌then◌else◌}
 use Rattle.driver_core.specs.Draft.{Draft}
-use Rattle.driver_core.specs.declared.outcome.Response.TheVariants.{PolicyInForce, PolicyFull}
+use Rattle.driver_core.specs.declared.state.outcome.Response.TheVariants.{PolicyInForce, PolicyFull}
 use Rattle.driver_core.specs.Draft.{answered}
 use Rattle.driver_core.specs.Pairs.{is_within_pairs}
 use Rattle.driver_core.specs.State.{State}

@@ -1,14 +1,14 @@
 -- After each event the pairs are those of the lists and the policy in force. What that closes and opens is reported.
 use Rattle.std.specs.Prelude.{ℕ, ◌==◌, List, [], ◌∷◌, ◌++◌, filter, find, map, Option, Some, None, if◌then◌else◌}
 use Rattle.std.specs.List.{flat_map}
-use Rattle.driver_core.specs.declared.outcome.Outcome.{Outcome}
-use Rattle.driver_core.specs.declared.told.Told.{Told}
+use Rattle.driver_core.specs.declared.state.outcome.Outcome.{Outcome}
+use Rattle.driver_core.specs.declared.state.report.Report.{Report}
 use Rattle.driver_core.specs.Change.{Change}
 use Rattle.driver_core.specs.Draft.{Draft}
-use Rattle.driver_core.specs.declared.event.End.{End}
-use Rattle.driver_core.specs.declared.event.Inputs.{Inputs}
-use Rattle.driver_core.specs.declared.replies.Message.{Message}
-use Rattle.driver_core.specs.declared.replies.Reply.TheVariants.{AvailableImage, UnavailableImage}
+use Rattle.driver_core.specs.declared.state.event.End.{End}
+use Rattle.driver_core.specs.declared.state.event.Inputs.{Inputs}
+use Rattle.driver_core.specs.declared.state.replies.Message.{Message}
+use Rattle.driver_core.specs.declared.state.replies.Reply.TheVariants.{AvailableImage, UnavailableImage}
 use Rattle.driver_core.specs.Pairs.{pairs_of, lacking}
 use Rattle.driver_core.specs.State.{State}
 use Rattle.client_registry.specs.Clients.{principal_at}
@@ -18,14 +18,14 @@ use Rattle.policy_core.specs.declared.decision.Decision.{Decision}
 use Rattle.policy_core.specs.RuleList.{Rules}
 use Rattle.policy_core.specs.Rules.{verdict_of}
 use Rattle.stream_registry.specs.declared.pairs.Pair.{Pair}
-use Rattle.stream_registry.specs.declared.row.Source.{Source}
+use Rattle.stream_registry.specs.declared.row.LogRow.{LogRow}
 use Rattle.stream_registry.specs.declared.row.Subscription.{Subscription}
 use Rattle.stream_registry.specs.Origins.{begins_at}
 use Rattle.driver_core.specs.Identity.{identity_of}
 use Rattle.stream_registry.specs.Pairs.{image_question, is_pair, pair_of}
 
 -- the rows of a pair
-abbrev pub source_at : List Source → ℕ → Option Source
+abbrev pub source_at : List LogRow → ℕ → Option LogRow
 source_at logs number = find (λ log. log.number == number) logs
 
 abbrev pub subscription_at : List Subscription → ℕ → Option Subscription
@@ -54,7 +54,7 @@ position_by begin (Some end) = end.position
 abbrev pub position_at : List End → ℕ → ℕ → ℕ
 position_at ends begin source = position_by begin (find (λ end. end.source == source) ends)
 
-abbrev pub available_to : List End → Pair → Option Source → Option Subscription → List Message
+abbrev pub available_to : List End → Pair → Option LogRow → Option Subscription → List Message
 available_to ends pair None subscription = []
 available_to ends pair (Some log) None = []
 available_to ends pair (Some log) (Some subscription) =
@@ -90,7 +90,7 @@ abbrev pub decided_for : State → Subscription → Option ℕ → List Decision
 decided_for s subscription None = []
 decided_for s subscription (Some principal) = image_decision s subscription principal ∷ []
 
-abbrev pub decided_to : State → Option Source → Option Subscription → List Decision
+abbrev pub decided_to : State → Option LogRow → Option Subscription → List Decision
 decided_to s None subscription = []
 decided_to s (Some log) None = []
 decided_to s (Some log) (Some subscription) =
@@ -136,7 +136,7 @@ renewed before inputs draft = record {
 }
 
 -- where no pair goes or comes
-abbrev pub outcome_kept : Told → Outcome
+abbrev pub outcome_kept : Report → Outcome
 outcome_kept told = record {
   response = told.response;
   replies = told.replies ++ told.later;
@@ -148,7 +148,7 @@ outcome_kept told = record {
 }
 
 -- where these pairs go, which are reported already, and none comes
-abbrev pub outcome_gone : Told → List Pair → Outcome
+abbrev pub outcome_gone : Report → List Pair → Outcome
 outcome_gone told gone = record (outcome_kept told) { gone = gone }
 
 -- what an event's draft reports once the pairs are renewed
@@ -164,7 +164,7 @@ unavailable_beside s clients pair = if is_of_any s.streams clients pair then [] 
 -- ---- where a subscription comes
 
 -- what is reported to its client of a log that it reads
-abbrev pub available_on : List Source → List End → Subscription → Pair → List Message
+abbrev pub available_on : List LogRow → List End → Subscription → Pair → List Message
 available_on logs ends subscription pair =
     available_to ends pair (source_at logs pair.source) (Some subscription)
 
@@ -174,7 +174,7 @@ decided_with s subscription pair =
     decided_to s (source_at s.streams.sources pair.source) (Some subscription)
 
 -- the outcome where a subscription comes, from what the event's own rule reports
-abbrev pub outcome_coming : State → Inputs → Told → Subscription → Outcome
+abbrev pub outcome_coming : State → Inputs → Report → Subscription → Outcome
 outcome_coming s inputs told subscription =
     let come : List Pair = pairs_with s.clients.rows s.policy s.epoch s.streams.sources subscription in
     record {
@@ -190,11 +190,11 @@ outcome_coming s inputs told subscription =
 -- ---- where a log comes
 
 -- those of these subscriptions that read it
-abbrev pub reading : State → Source → List Subscription → List Subscription
+abbrev pub reading : State → LogRow → List Subscription → List Subscription
 reading s log subscriptions = filter (is_pair s.clients.rows s.policy s.epoch log) subscriptions
 
 -- what is reported to the client of such a subscription
-abbrev pub available_from : List End → Source → Subscription → List Message
+abbrev pub available_from : List End → LogRow → Subscription → List Message
 available_from ends log subscription = available_to ends (pair_of log subscription) (Some log) (Some subscription)
 
 -- what is decided on it
@@ -202,7 +202,7 @@ abbrev pub decided_from : State → Subscription → List Decision
 decided_from s subscription = decided_for s subscription (principal_at s.clients.rows subscription.client)
 
 -- the outcome where a log comes, from what the event's own rule reports
-abbrev pub outcome_opening : State → Inputs → Told → Source → Outcome
+abbrev pub outcome_opening : State → Inputs → Report → LogRow → Outcome
 outcome_opening s inputs told log =
     let readers : List Subscription = reading s log s.streams.subscriptions in
     record {

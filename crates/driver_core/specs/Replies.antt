@@ -1,10 +1,10 @@
 -- How a reply is laid out.
 use Rattle.std.specs.Prelude.{ℕ, List, [], unwrap_or}
 use Rattle.driver_core.specs.Identity.{identity_text}
-use Rattle.driver_core.specs.declared.refusal.Refusal.{Refusal}
-use Rattle.driver_core.specs.declared.refusal.Refusal.TheVariants.{UnknownCommandType, MalformedCommand, WrongClient, InvalidChannel, UnknownSubscription, UnknownPublication, UnknownCounter, Denied, Conflict, Full, NoRoom}
-use Rattle.driver_core.specs.declared.replies.Reply.{Reply}
-use Rattle.driver_core.specs.declared.replies.Reply.TheVariants.{Error, OperationSuccess, PublicationReady, ExclusivePublicationReady, SubscriptionReady, AvailableImage, UnavailableImage, CounterReady, UnavailableCounter, ClientTimeout}
+use Rattle.driver_core.specs.declared.state.refusal.Refusal.{Refusal}
+use Rattle.driver_core.specs.declared.state.refusal.Refusal.TheVariants.{UnknownCommandType, MalformedCommand, WrongClient, InvalidChannel, UnknownSubscription, UnknownPublication, UnknownCounter, Denied, Conflict, Full, NoRoom}
+use Rattle.driver_core.specs.declared.state.replies.Reply.{Reply}
+use Rattle.driver_core.specs.declared.state.replies.Reply.TheVariants.{Error, OperationSuccess, PublicationReady, ExclusivePublicationReady, SubscriptionReady, AvailableImage, UnavailableImage, CounterReady, UnavailableCounter, ClientTimeout}
 use Rattle.command_codec.specs.declared.error_code.ErrorCode.{ErrorCode}
 use Rattle.command_codec.specs.declared.error_code.ErrorCode.TheVariants as code
 use Rattle.command_codec.specs.declared.reply.Reply.{Reply as Layout}

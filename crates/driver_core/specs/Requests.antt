@@ -1,7 +1,7 @@
 -- Well-formed requests of clients, and what the policy is asked about them.
 use Rattle.std.specs.Prelude.{◌≡◌, ℕ, ◌==◌, pos, Bool, true, false, ◌&&◌, List, Some, is_some, Result, Ok, Err, ◌⊎◌, if◌then◌else◌}
 use Rattle.driver_core.specs.Deciding.{question_by}
-use Rattle.driver_core.specs.declared.directing.Target.{Target}
+use Rattle.driver_core.specs.declared.rules.directing.Target.{Target}
 use Rattle.driver_core.specs.Directing.{target_of}
 use Rattle.driver_core.specs.Publishing.{is_publishable, publishing_act, wanted_of}
 use Rattle.driver_core.specs.State.{State}

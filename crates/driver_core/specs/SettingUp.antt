@@ -2,9 +2,9 @@
 use Rattle.std.specs.Prelude.{ℕ, ◌+◌, Bool, false, not, ◌&&◌, nat_lt, List, [], ◌∷◌, filter, length, Option, Some, None, Result, Ok, Err, is_some, unwrap_or, if◌then◌else◌}
 use Rattle.std.specs.List.{list_any}
 use Rattle.std.specs.Str.{bytes_eq}
-use Rattle.driver_core.specs.declared.outcome.Response.TheVariants.{Imaged, Dropped}
-use Rattle.driver_core.specs.declared.setup_fault.SetupFault.{SetupFault}
-use Rattle.driver_core.specs.declared.setup_fault.SetupFault.TheVariants.{BadSetup, Exists, NoSubscription, Denied, Full, NoRoom}
+use Rattle.driver_core.specs.declared.state.outcome.Response.TheVariants.{Imaged, Dropped}
+use Rattle.driver_core.specs.declared.state.setup_fault.SetupFault.{SetupFault}
+use Rattle.driver_core.specs.declared.state.setup_fault.SetupFault.TheVariants.{BadSetup, Exists, NoSubscription, Denied, Full, NoRoom}
 use Rattle.driver_core.specs.Draft.{Draft, answered}
 use Rattle.driver_core.specs.Pairs.{is_within_pairs}
 use Rattle.driver_core.specs.State.{State, has_number}
@@ -16,7 +16,7 @@ use Rattle.frame_codec.specs.declared.setup.Setup.{Setup}
 use Rattle.frame_codec.specs.Join.{join_of}
 use Rattle.policy_core.specs.declared.verdict.Verdict.{Verdict}
 use Rattle.policy_core.specs.Rules.{defaulted, verdict_of}
-use Rattle.stream_registry.specs.declared.row.Source.{Source}
+use Rattle.stream_registry.specs.declared.row.LogRow.{LogRow}
 use Rattle.stream_registry.specs.declared.row.Subscription.{Subscription}
 use Rattle.stream_registry.specs.declared.wanted.ImageWanted.{ImageWanted}
 use Rattle.stream_registry.specs.Images.{has_room_for_image, image_at, image_of, image_place_for, imaged}
@@ -42,7 +42,7 @@ abbrev pub place_of_image : State → ImageWanted → Option ℕ
 place_of_image s wanted = image_place_for s.streams s.settings.arena_pages wanted
 
 -- the row of the image, under the next number
-abbrev pub new_image : State → ImageWanted → Source
+abbrev pub new_image : State → ImageWanted → LogRow
 new_image s wanted = image_of s.streams (s.last_number + 1) wanted (unwrap_or (place_of_image s wanted) 0)
 
 -- it is there
@@ -59,7 +59,7 @@ sends_from from None = false
 sends_from from (Some publisher) = bytes_eq publisher.octets from.octets
 
 -- it is an image whose publisher sends from that address, from whichever port
-abbrev pub is_from : Address → Source → Bool
+abbrev pub is_from : Address → LogRow → Bool
 is_from from log = sends_from from (address_of log)
 
 -- fewer images than the driver is set to have of one source are of that publisher's address

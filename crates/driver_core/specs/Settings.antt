@@ -1,6 +1,6 @@
 -- What a driver is set to where nothing is said: durations in nanoseconds, sizes in bytes.
 use Rattle.std.specs.Prelude.{pos, [], ◌∷◌}
-use Rattle.driver_core.specs.declared.settings.Settings.{Settings}
+use Rattle.driver_core.specs.declared.state.settings.Settings.{Settings}
 
 abbrev pub default_settings : Settings
 default_settings = record {

@@ -3,14 +3,14 @@
 -- change. Own rules.
 use Rattle.std.specs.Prelude.{◌≡◌, ℕ, ◌*◌, ◌%◌, ◌^◌, ◌<◌, ◌≤◌, List, [], ◌∷◌, ◌++◌, length, map, filter, All, Option, Some, None}
 use Rattle.driver_core.specs.Change.{Change}
-use Rattle.driver_core.specs.declared.settings.Settings.{Settings}
+use Rattle.driver_core.specs.declared.state.settings.Settings.{Settings}
 use Rattle.driver_core.specs.State.{State}
 use Rattle.log_readers.specs.Unread.{is_left}
 use Rattle.stream_registry.specs.declared.lingering.LogPlace.{LogPlace}
 use Rattle.stream_registry.specs.declared.measures.Measures.{Measures}
 use Rattle.stream_registry.specs.declared.row.Origin.{Origin}
 use Rattle.stream_registry.specs.declared.row.Origin.TheVariants.{Published, Remote}
-use Rattle.stream_registry.specs.declared.row.Source.{Source}
+use Rattle.stream_registry.specs.declared.row.LogRow.{LogRow}
 use Rattle.stream_registry.specs.Lingering.{place_of}
 use Rattle.stream_registry.specs.LogPages.{log_pages}
 use Rattle.stream_registry.specs.Origins.{lingering_since, unlingering}
@@ -34,7 +34,7 @@ pub record AreSettings (settings : Settings) : Type 0 where
   pub few_images : settings.images_per_source ≤ 512
 
 -- the source numbers ascend, above that number and up to the last one that was drawn
-abbrev pub Ascend : ℕ → ℕ → List Source → Type 0
+abbrev pub Ascend : ℕ → ℕ → List LogRow → Type 0
 Ascend before last [] = before ≤ last
 Ascend before last (log ∷ logs) =
     (before < log.number) × Ascend log.number last logs
@@ -44,7 +44,7 @@ abbrev pub BeginsBy : ℕ → Origin → Type 0
 BeginsBy term_length (Published exclusive since) = Unit {0}
 BeginsBy term_length (Remote address initial_term join) = (join % 32 ≡ 0) × (join < term_length * 2 ^ 31)
 
-abbrev pub BeginsSoundly : Source → Type 0
+abbrev pub BeginsSoundly : LogRow → Type 0
 BeginsSoundly log = BeginsBy log.measures.term_length log.origin
 
 pub record IsSound (s : State) : Type 0 where
@@ -58,14 +58,14 @@ pub record IsSound (s : State) : Type 0 where
 -- ---- what an event does to the logs
 
 -- a log, whether it lingers or not
-abbrev pub log_of : Source → Source
+abbrev pub log_of : LogRow → LogRow
 log_of log = record log { origin = unlingering log.origin }
 
 -- the log that opens, if one does, at the least place where it shares no page with those that are there
-abbrev pub Opens : State → Option LogPlace → List Source → Type 0
+abbrev pub Opens : State → Option LogPlace → List LogRow → Type 0
 Opens s None logs = logs ≡ []
 Opens s (Some place) logs =
-    (log : Source)
+    (log : LogRow)
     × (logs ≡ log ∷ [])
     × (place_of log ≡ place)
     × (lingering_since log ≡ None)
@@ -76,7 +76,7 @@ Opens s (Some place) logs =
 pub record MovesLogs (s : State) (change : Change) : Type 0 where
   pub sound : IsSound change.after
   pub settings : change.after.settings ≡ s.settings
-  pub opened : List Source
+  pub opened : List LogRow
   pub opens : Opens s change.outcome.opens opened
   pub stays : filter (is_left change.outcome.closes) opened ≡ opened
   pub logs :

@@ -1,7 +1,7 @@
 -- What the conductor knows, as plain data.
 use Rattle.std.specs.Prelude.{ℕ, Bool, false, nat_lt, List, [], max}
-use Rattle.driver_core.specs.declared.peer.Peer.{Peer}
-use Rattle.driver_core.specs.declared.settings.Settings.{Settings}
+use Rattle.driver_core.specs.declared.state.peer.Peer.{Peer}
+use Rattle.driver_core.specs.declared.state.settings.Settings.{Settings}
 use Rattle.client_registry.specs.Clients.{ClientList, opened as nobody}
 use Rattle.counters.specs.declared.counter.Counter.{Counter}
 use Rattle.destinations.specs.Destinations.{DestinationList, none as nothing_named}

@@ -1,12 +1,12 @@
 -- ADD_SUBSCRIPTION.
 use Rattle.std.specs.Prelude.{ℕ, ◌+◌, ℤ, Bool, true, false, not, ◌&&◌, [], ◌∷◌, is_some, is_none, Result, Ok, Err, codes, if◌then◌else◌}
 use Rattle.driver_core.specs.Draft.{Draft}
-use Rattle.driver_core.specs.declared.refusal.Refusal.TheVariants.{InvalidChannel, Denied, Full}
-use Rattle.driver_core.specs.declared.replies.Reply.TheVariants.{SubscriptionReady}
+use Rattle.driver_core.specs.declared.state.refusal.Refusal.TheVariants.{InvalidChannel, Denied, Full}
+use Rattle.driver_core.specs.declared.state.replies.Reply.TheVariants.{SubscriptionReady}
 use Rattle.driver_core.specs.Draft.{replied, refused}
 use Rattle.driver_core.specs.Deciding.{decision_by}
 use Rattle.driver_core.specs.Pairs.{is_within_pairs}
-use Rattle.driver_core.specs.declared.refused.Refused.{Refused}
+use Rattle.driver_core.specs.declared.state.refused.Refused.{Refused}
 use Rattle.driver_core.specs.Refusing.{on, denied}
 use Rattle.driver_core.specs.State.{State, has_number}
 use Rattle.client_registry.specs.declared.client.Client.{Client}

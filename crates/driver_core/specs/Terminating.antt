@@ -1,12 +1,12 @@
 -- TERMINATE_DRIVER.
 use Rattle.std.specs.Prelude.{ℕ, true, not, pos, [], ◌∷◌, map, None, Result, Ok, Err, if◌then◌else◌}
 use Rattle.driver_core.specs.Draft.{Draft}
-use Rattle.driver_core.specs.declared.outcome.Response.TheVariants.{Nothing}
-use Rattle.driver_core.specs.declared.refusal.Refusal.TheVariants.{Denied}
-use Rattle.driver_core.specs.declared.replies.Reply.TheVariants.{OperationSuccess}
+use Rattle.driver_core.specs.declared.state.outcome.Response.TheVariants.{Nothing}
+use Rattle.driver_core.specs.declared.state.refusal.Refusal.TheVariants.{Denied}
+use Rattle.driver_core.specs.declared.state.replies.Reply.TheVariants.{OperationSuccess}
 use Rattle.driver_core.specs.Draft.{refused}
 use Rattle.driver_core.specs.Deciding.{decision_by}
-use Rattle.driver_core.specs.declared.refused.Refused.{Refused}
+use Rattle.driver_core.specs.declared.state.refused.Refused.{Refused}
 use Rattle.driver_core.specs.Refusing.{denied}
 use Rattle.driver_core.specs.State.{State}
 use Rattle.channel_uri.specs.Channel.{ipc_shape}

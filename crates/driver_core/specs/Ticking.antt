@@ -2,14 +2,14 @@
 -- images of which nothing was heard.
 use Rattle.std.specs.Prelude.{ℕ, List, [], map, filter, None}
 use Rattle.driver_core.specs.Draft.{Draft}
-use Rattle.driver_core.specs.declared.outcome.Response.TheVariants.{Nothing}
-use Rattle.driver_core.specs.declared.replies.Message.{Message}
-use Rattle.driver_core.specs.declared.replies.Reply.TheVariants.{ClientTimeout}
+use Rattle.driver_core.specs.declared.state.outcome.Response.TheVariants.{Nothing}
+use Rattle.driver_core.specs.declared.state.replies.Message.{Message}
+use Rattle.driver_core.specs.declared.state.replies.Reply.TheVariants.{ClientTimeout}
 use Rattle.driver_core.specs.Leaving.{all_left}
 use Rattle.driver_core.specs.State.{State}
 use Rattle.client_registry.specs.Clients.{expired_of}
 use Rattle.destinations.specs.Destinations.{without_sources}
-use Rattle.stream_registry.specs.declared.row.Source.{Source}
+use Rattle.stream_registry.specs.declared.row.LogRow.{LogRow}
 use Rattle.stream_registry.specs.Lingering.{closed, closing_of, is_closing}
 
 -- the clients of which nothing was heard for longer than the liveness, by their ids
@@ -21,7 +21,7 @@ abbrev pub timeout_of : ℕ → Message
 timeout_of client = record { client = client; reply = ClientTimeout client }
 
 -- the numbers of the logs that close
-abbrev pub numbers_of_closing : ℕ → List ℕ → List Source → List ℕ
+abbrev pub numbers_of_closing : ℕ → List ℕ → List LogRow → List ℕ
 numbers_of_closing now silent logs = map (λ log. log.number) (filter (is_closing now silent) logs)
 
 -- the logs close that linger for too long, with their destinations, and these images, which are silent

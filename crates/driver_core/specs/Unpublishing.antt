@@ -1,8 +1,8 @@
 -- REMOVE_PUBLICATION.
 use Rattle.std.specs.Prelude.{ℕ, [], if◌then◌else◌}
 use Rattle.driver_core.specs.Draft.{Draft}
-use Rattle.driver_core.specs.declared.refusal.Refusal.TheVariants.{UnknownPublication}
-use Rattle.driver_core.specs.declared.replies.Reply.TheVariants.{OperationSuccess}
+use Rattle.driver_core.specs.declared.state.refusal.Refusal.TheVariants.{UnknownPublication}
+use Rattle.driver_core.specs.declared.state.replies.Reply.TheVariants.{OperationSuccess}
 use Rattle.driver_core.specs.Draft.{replied, refused}
 use Rattle.driver_core.specs.State.{State}
 use Rattle.client_registry.specs.declared.client.Client.{Client}

@@ -5,7 +5,7 @@ use Rattle.driver_core.specs.Pairs.{pairs_of}
 use Rattle.driver_core.specs.State.{State}
 use Rattle.log_readers.specs.Unread.{has_none, is_left, is_unread, unread_of, without_unread as without_unread_in}
 use Rattle.stream_registry.specs.declared.lingering.LogPlace.{LogPlace}
-use Rattle.stream_registry.specs.declared.row.Source.{Source}
+use Rattle.stream_registry.specs.declared.row.LogRow.{LogRow}
 use Rattle.stream_registry.specs.Lingering.{place_of}
 
 -- each image has a pair
@@ -18,7 +18,7 @@ without_unread s =
     record s { streams = without_unread_in s.streams s.clients.rows s.policy s.epoch }
 
 -- the event's own rule closes it, or it is an image of which no pair is left
-abbrev pub is_closed : Change → Source → Bool
+abbrev pub is_closed : Change → LogRow → Bool
 is_closed change log = not (is_left change.outcome.closes log) || is_unread (pairs_of change.after) log
 
 -- where those lie that were there before

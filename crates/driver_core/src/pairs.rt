@@ -1,7 +1,15 @@
+//! Which subscription reads which log, as pairs: those there are, those that come and go with an event and what is told of
+//! them, and the images that go with their last one.
+
+pub(crate) mod coming;
+pub(crate) mod readers;
+pub(crate) mod renewal;
+pub(crate) mod unread;
+
 ghost use Rattle.driver_core.specs.Pairs.{pairs_of};
 ghost use Rattle.std.specs.Prelude.{◌≡◌, [], true, IfOk};
 
-use crate::registry::Registry;
+use crate::state::registry::Registry;
 use byte_strings::Items;
 use std::alloc::{AllocError, Global};
 use stream_registry::Pair;

@@ -1,9 +1,9 @@
 -- What each event keeps holds after more entries.
 use Rattle.std.proofs.Common.{◌≡◌, List, [], ◌∷◌, ◌++◌, refl, sym, ap, ◌∙◌, subst, inl, inr, ⊎_elim, arith}
 use Rattle.driver_core.specs.Conduct.{state_after}
-use Rattle.driver_core.specs.declared.entry.Entry.{Entry}
-use Rattle.driver_core.specs.declared.event.Event.{Event}
-use Rattle.driver_core.specs.declared.event.Inputs.{Inputs}
+use Rattle.driver_core.specs.declared.state.entry.Entry.{Entry}
+use Rattle.driver_core.specs.declared.state.event.Event.{Event}
+use Rattle.driver_core.specs.declared.state.event.Inputs.{Inputs}
 use Rattle.driver_core.specs.Looking.{IsSameOrNewer}
 use Rattle.driver_core.specs.State.{State}
 use Rattle.published_registry.specs.Histories.{History, IsContinuedBy, registry_after, registry_of}

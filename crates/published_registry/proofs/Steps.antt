@@ -1,7 +1,7 @@
 -- What an entry makes of what is shown.
 use Rattle.std.proofs.Common.{◌≡◌, List, [], ◌∷◌, ◌++◌, refl, sym, ap, ◌∙◌, subst}
 use Rattle.driver_core.specs.Conduct.{state_after}
-use Rattle.driver_core.specs.declared.entry.Entry.{Entry}
+use Rattle.driver_core.specs.declared.state.entry.Entry.{Entry}
 use Rattle.driver_core.specs.State.{State}
 use Rattle.logbook.specs.Pages.{Named}
 use Rattle.published_registry.specs.declared.rule.Told.{Told}

@@ -1,7 +1,7 @@
 -- How the copies of a publisher go together.
 use Rattle.std.specs.Prelude.{◌≡◌, [], ◌∷◌, ◌++◌}
 use Rattle.driver_core.specs.Conduct.{state_after}
-use Rattle.driver_core.specs.declared.entry.Entry.{Entry}
+use Rattle.driver_core.specs.declared.state.entry.Entry.{Entry}
 use Rattle.driver_core.specs.State.{State}
 use Rattle.logbook.specs.Pages.{Named}
 use Rattle.published_registry.specs.Books.{head_of}

@@ -1,6 +1,6 @@
 use Rattle.std.proofs.Common.{ap, subst, List}
 use mathlib.Core.List.{IsPrefix}
-use Rattle.driver_core.specs.declared.entry.Entry.{Entry}
+use Rattle.driver_core.specs.declared.state.entry.Entry.{Entry}
 use Rattle.published_registry.proofs.Fronts.{prefix_either}
 use Rattle.published_registry.proofs.front.Front.begins.Goals as goal
 

@@ -1,0 +1,60 @@
+use Rattle.std.proofs.Common.{rules, ◌≡◌, ℤ, to_z, of_z, w32, sym, subst}
+use Rattle.decision_cache.specs.Entries.{AddsAtMost, IsSoundAt, key_of}
+use Rattle.driver_core.specs.Cached.{IsCached, offer_question}
+use Rattle.driver_core.specs.State.{State}
+use Rattle.log_readers.specs.Numbering.{Rises, registered_as, source_of}
+use Rattle.policy_core.specs.declared.act.Act.TheVariants.{Offer}
+use Rattle.policy_core.specs.declared.verdict.Verdict.{Verdict}
+use Rattle.policy_core.specs.Moments.{at}
+use Rattle.policy_core.specs.Question.{Question}
+use Rattle.policy_core.specs.Rules.{verdict_of}
+use Rattle.driver_core.proofs.CacheLemmas.{cached_more, offer_cached, offer_sound}
+use Rattle.driver_core.proofs.state.registry.Registry.offer_verdict.Goals as goal
+
+pub verdict-requires : goal.verdict-requires
+verdict-requires c =
+    let asked : ℤ → Question =
+    λ stream. record { principal = c.args.principal; act = Offer; channel = c.args.registration.now.channel; stream = stream } in
+    let stream : to_z w32 (of_z w32 c.args.log.now.stream) ≡ c.args.log.now.stream = search rules in
+    subst (λ (z : ℤ).
+    IsSoundAt c.args.cache.now c.self.inside.compiled.given c.self.inside.compiled.epoch c.self.inside.compiled.as_of c.args.registration.now.number (asked z))
+    (sym stream)
+    (subst (λ (s : State).
+    IsSoundAt c.args.cache.now s.given s.epoch c.self.inside.compiled.as_of c.args.registration.now.number (asked c.args.log.now.stream)) (sym c.self.view_is)
+    (offer_sound c.args.self.now c.args.cache.now c.self.inside.compiled.as_of c.args.principal c.args.registration.now c.args.log.now
+    c.requires.cached c.requires.registered c.requires.live c.requires.with))
+
+pub returns-clause-verdict : goal.returns-clause-verdict
+returns-clause-verdict c =
+    let asked : ℤ → Question =
+    λ stream. record { principal = c.args.principal; act = Offer; channel = c.args.registration.now.channel; stream = stream } in
+    let stream : to_z w32 (of_z w32 c.args.log.now.stream) ≡ c.args.log.now.stream = search rules in
+    subst (λ (z : ℤ). c.verdict.result ≡ verdict_of c.args.self.now.policy c.args.self.now.epoch (asked z)) stream
+    (subst (λ (s : State).
+    c.verdict.result ≡ verdict_of s.policy s.epoch (asked (to_z w32 (of_z w32 c.args.log.now.stream)))) c.self.view_is
+    c.verdict.ensures.verdict)
+
+pub returns-clause-cached : goal.returns-clause-cached
+returns-clause-cached c =
+    let as_of : c.verdict.result ≡ verdict_of (at c.args.self.now.given c.self.inside.compiled.as_of) c.args.self.now.epoch (offer_question c.args.principal c.args.registration.now c.args.log.now) =
+    let asked : ℤ → Question =
+    λ stream. record { principal = c.args.principal; act = Offer; channel = c.args.registration.now.channel; stream = stream } in
+    let stream : to_z w32 (of_z w32 c.args.log.now.stream) ≡ c.args.log.now.stream = search rules in
+    subst (λ (z : ℤ). c.verdict.result ≡ verdict_of (at c.args.self.now.given c.self.inside.compiled.as_of) c.args.self.now.epoch (asked z)) stream
+    (subst (λ (s : State).
+    c.verdict.result ≡ verdict_of (at s.given c.self.inside.compiled.as_of) s.epoch (asked (to_z w32 (of_z w32 c.args.log.now.stream)))) c.self.view_is
+    c.verdict.ensures.verdict) in
+    let s : State = c.args.self.now in
+    let moment = c.self.inside.compiled.as_of in
+    let number = c.args.registration.now.number in
+    let question = offer_question c.args.principal c.args.registration.now c.args.log.now in
+    let sources : Rises source_of 0 s.last_number s.streams.sources = rw (← c.self.view_is) c.self.invariant.kept.order.sources in
+    let registered : Rises registered_as 0 s.last_number s.streams.registrations =
+    rw (← c.self.view_is) c.self.invariant.kept.order.registered in
+    let adds : AddsAtMost c.args.cache.now c.verdict.new.self (key_of s.epoch moment number question) c.verdict.result =
+    subst (λ (t : State). AddsAtMost c.args.cache.now c.verdict.new.self (key_of t.epoch moment number question) c.verdict.result)
+    c.self.view_is c.verdict.ensures.entries in
+    cached_more s c.args.cache.now c.verdict.new.self (key_of s.epoch moment number question, c.verdict.result) c.requires.cached adds
+    (subst (λ (v : Verdict). IsCached s (key_of s.epoch moment number question, v)) (sym as_of)
+    (offer_cached s moment c.args.principal c.args.registration.now c.args.log.now sources registered
+    c.requires.registered c.requires.live c.requires.with))
