@@ -1,11 +1,11 @@
 -- No number is drawn for two lists, but for those of a log and its registration.
 use Rattle.std.proofs.Common.{◌≡◌, ℕ, ◌+◌, ◌≤◌, Bool, true, false, List, [], Ok, inl, inr, if◌then◌else◌, refl, sym, ap, ◌∙◌, ◌⊎◌, ⊎_elim, arith}
 use Rattle.std.specs.List.{Contains}
-use Rattle.driver_core.specs.declared.event.Event.{Event}
-use Rattle.driver_core.specs.declared.event.Event.TheVariants.{Command}
-use Rattle.driver_core.specs.declared.event.Inputs.{Inputs}
-use Rattle.driver_core.specs.declared.peer.Peer.{Peer}
-use Rattle.driver_core.specs.declared.settings.Settings.{Settings}
+use Rattle.driver_core.specs.declared.state.event.Event.{Event}
+use Rattle.driver_core.specs.declared.state.event.Event.TheVariants.{Command}
+use Rattle.driver_core.specs.declared.state.event.Inputs.{Inputs}
+use Rattle.driver_core.specs.declared.state.peer.Peer.{Peer}
+use Rattle.driver_core.specs.declared.state.settings.Settings.{Settings}
 use Rattle.driver_core.specs.Conduct.{coming_to, state_after}
 use Rattle.driver_core.specs.Requests.{AsksToPublish, PublicationRequest, publication_body, wanted_by}
 use Rattle.driver_core.specs.State.{State, opened, ruled}
@@ -22,7 +22,7 @@ use Rattle.command_codec.specs.declared.command.Command.{Command as Read}
 use Rattle.command_codec.specs.Command.{command_of}
 use Rattle.counters.specs.declared.counter.Counter.{Counter}
 use Rattle.policy_core.specs.RuleList.{Rules}
-use Rattle.stream_registry.specs.declared.row.Source.{Source}
+use Rattle.stream_registry.specs.declared.row.LogRow.{LogRow}
 use Rattle.stream_registry.specs.declared.row.Registration.{Registration}
 use Rattle.stream_registry.specs.declared.row.Subscription.{Subscription}
 use Rattle.stream_registry.specs.declared.wanted.Adding.TheVariants.{Make}
@@ -98,9 +98,9 @@ new_registration s event row made = record {
   };
 }
 
-new_log : (s : State) (event : Event) (log : Source) → IsLogMadeBy s event log → IsNew s event 1 log.number
+new_log : (s : State) (event : Event) (log : LogRow) → IsLogMadeBy s event log → IsNew s event 1 log.number
 new_log s event log made = record {
-  next = ap (λ (p : Source). p.number) made.made_is;
+  next = ap (λ (p : LogRow). p.number) made.made_is;
   draws = (new_registration s event made.registration made.registered).draws;
 }
 
@@ -212,18 +212,18 @@ counter_from s event inputs counter drawn has =
     ((counts_and_ends_only s event inputs).counters counter has)
 
 -- a log was live, or a request makes it, or a SETUP
-abbrev IsFrom : State → Event → Source → Type 0
+abbrev IsFrom : State → Event → LogRow → Type 0
 IsFrom s event log =
     Stood s (WasLive s.streams log) log.number
     ⊎ (IsNew s event 1 log.number ⊎ IsImageMadeBy (coming_to s event) event log)
 
 -- a SETUP asks for no row of another list
-draws_none : (s : State) (event : Event) (log : Source) (list : ℕ) → IsImageMadeBy s event log → DrawsFor event list → ⊥
+draws_none : (s : State) (event : Event) (log : LogRow) (list : ℕ) → IsImageMadeBy s event log → DrawsFor event list → ⊥
 draws_none s event log list image draws =
     let never = sym image.event_is ∙ draws.event_is in
     absurd (cc never)
 
-log_apart : (s : State) (event : Event) (log : Source) (other : ℕ) (WasOther : Type 0) (another : ℕ) → (1 ≡ other → ⊥) →
+log_apart : (s : State) (event : Event) (log : LogRow) (other : ℕ) (WasOther : Type 0) (another : ℕ) → (1 ≡ other → ⊥) →
     (WasLive s.streams log → WasOther → ¬ (log.number ≡ another)) → IsFrom s event log →
     Stood s WasOther another ⊎ IsNew s event other another → ¬ (log.number ≡ another)
 unfolding ruled
@@ -246,14 +246,14 @@ log_apart s event log other WasOther another differ before one two = λ same.
     made)
     one
 
-log_from : (s : State) (event : Event) (inputs : Inputs) (log : Source) → AreDrawn s →
+log_from : (s : State) (event : Event) (inputs : Inputs) (log : LogRow) → AreDrawn s →
     Contains (state_after s event inputs).streams.sources log →
     IsFrom s event log
 unfolding ruled
 log_from s event inputs log drawn has =
     ⊎_elim
     (λ (stood : WasLive s.streams log).
-    let same : log.number ≡ stood.before.number = ap (λ (p : Source). p.number) stood.same in
+    let same : log.number ≡ stood.before.number = ap (λ (p : LogRow). p.number) stood.same in
     inl (record { was = stood; drawn = rw same (drawn.sources stood.before stood.stood).below }))
     (λ others.
     ⊎_elim
@@ -265,8 +265,8 @@ log_from s event inputs log drawn has =
 counter_number : (s : State) (counter : Counter) (stood : StoodBefore s counter) → counter.number ≡ stood.before.number
 counter_number s counter stood = ap (λ (c : Counter). c.number) stood.same
 
-log_number : (s : State) (log : Source) (stood : WasLive s.streams log) → log.number ≡ stood.before.number
-log_number s log stood = ap (λ (p : Source). p.number) stood.same
+log_number : (s : State) (log : LogRow) (stood : WasLive s.streams log) → log.number ≡ stood.before.number
+log_number s log stood = ap (λ (p : LogRow). p.number) stood.same
 
 -- ---- a log and the registration that made it
 
@@ -299,7 +299,7 @@ wanted_same s handle another bytes others one two same first second =
     rw (channel, fields, exclusive) refl
 
 -- who is registered by the event that makes a log is registered with it
-made_together : (s : State) (event : Event) (log : Source) (row : Registration) → IsLogMadeBy s event log →
+made_together : (s : State) (event : Event) (log : LogRow) (row : Registration) → IsLogMadeBy s event log →
     IsRegisteredBy s event row → row.source ≡ log.number
 made_together s event log row made registered =
     let maker = made.registered in
@@ -310,10 +310,10 @@ made_together s event log row made registered =
     let makes : registered.adding ≡ Make made.session = cc (adding, made.makes) in
     let source : row.source ≡ source_of s registered.adding = ap (λ (r : Registration). r.source) registered.made_is in
     let next : source_of s registered.adding ≡ s.last_number + 1 = ap (source_of s) makes in
-    let log_is : log.number ≡ s.last_number + 1 = ap (λ (p : Source). p.number) made.made_is in
+    let log_is : log.number ≡ s.last_number + 1 = ap (λ (p : LogRow). p.number) made.made_is in
     source ∙ next ∙ sym log_is
 
-registered_with : (s : State) (event : Event) (inputs : Inputs) (log : Source) (row : Registration) → AreDrawn s →
+registered_with : (s : State) (event : Event) (inputs : Inputs) (log : LogRow) (row : Registration) → AreDrawn s →
     AreApart s → Contains (state_after s event inputs).streams.sources log →
     Contains (state_after s event inputs).streams.registrations row → log.number ≡ row.number →
     row.source ≡ log.number

@@ -4,9 +4,9 @@ use Rattle.std.specs.List.{Contains, list_any}
 use Rattle.std.proofs.lemmas.Bool.{cases_Bool, eqb-true, eq-eqb}
 use Rattle.std.proofs.lemmas.List.Elements.{All-contains, Contains-append_left, Contains-append_right, Contains-push, filter_passes}
 use Rattle.driver_core.specs.Directing.{directed, recalled, with_destination, without_destination}
-use Rattle.driver_core.specs.declared.event.Event.{Event}
-use Rattle.driver_core.specs.declared.event.Inputs.{Inputs}
-use Rattle.driver_core.specs.declared.event.Event.TheVariants.{Attach, Command, Reload, Setup, Tick}
+use Rattle.driver_core.specs.declared.state.event.Event.{Event}
+use Rattle.driver_core.specs.declared.state.event.Inputs.{Inputs}
+use Rattle.driver_core.specs.declared.state.event.Event.TheVariants.{Attach, Command, Reload, Setup, Tick}
 use Rattle.driver_core.specs.Attaching.{attached}
 use Rattle.driver_core.specs.Closing.{close, keep_alive}
 use Rattle.driver_core.specs.Commands.{heard}
@@ -31,7 +31,7 @@ use Rattle.driver_core.specs.Soundness.{log_of}
 use Rattle.driver_laws.specs.ClosingLaws.{ClosedLogsWereThere, IsSameLog, is_no_more}
 use Rattle.driver_laws.specs.NumberLaws.{AreRising, Rises}
 use Rattle.driver_laws.specs.PublishingLaws.{IsImageMadeBy, IsLogMadeBy, WasLive}
-use Rattle.stream_registry.specs.declared.row.Source.{Source}
+use Rattle.stream_registry.specs.declared.row.LogRow.{LogRow}
 use Rattle.stream_registry.specs.declared.row.Registration.{Registration}
 use Rattle.stream_registry.specs.declared.wanted.Adding.{Adding}
 use Rattle.stream_registry.specs.declared.wanted.Adding.TheVariants.{Join, Make}
@@ -60,10 +60,10 @@ use Rattle.driver_laws.proofs.TurningLemmas.{drawn, rising_at}
 -- ---- logs by their numbers
 
 -- a log of that number is among these
-abbrev has_source : List Source → ℕ → Bool
-has_source logs source = list_any (λ (other : Source). other.number == source) logs
+abbrev has_source : List LogRow → ℕ → Bool
+has_source logs source = list_any (λ (other : LogRow). other.number == source) logs
 
-abbrev lacks_source : List Source → ℕ → Bool
+abbrev lacks_source : List LogRow → ℕ → Bool
 lacks_source logs source = not (has_source logs source)
 
 any_is : {X : Type 0} (b : Bool) (test : X → Bool) (x : X) (xs : List X) → test x ≡ b →
@@ -81,10 +81,10 @@ some_passes test [] any = absurd (cc any)
 some_passes test (x ∷ xs) any = any_is (test x) test x xs refl (some_passes test xs) any
 
 -- where a log stands that has the number of another, the other's is there
-has_number : (logs : List Source) (log : Source) (source : ℕ) → Contains logs log → log.number ≡ source →
+has_number : (logs : List LogRow) (log : LogRow) (source : ℕ) → Contains logs log → log.number ≡ source →
     has_source logs source ≡ true
 has_number logs log source has same =
-    any_of (λ (other : Source). other.number == source) logs log has (eq-eqb log.number source same)
+    any_of (λ (other : LogRow). other.number == source) logs log has (eq-eqb log.number source same)
 
 -- ---- where no log goes
 
@@ -96,19 +96,19 @@ none_fails test (x ∷ xs) each =
     (none_fails test xs (λ y has. each y (Contains-append_right (x ∷ []) xs y has)))
 
 -- each log's number is among these
-abbrev AllStay : List Source → List Source → Type 0
-AllStay logs after = (log : Source) → Contains logs log → has_source after log.number ≡ true
+abbrev AllStay : List LogRow → List LogRow → Type 0
+AllStay logs after = (log : LogRow) → Contains logs log → has_source after log.number ≡ true
 
-nothing_goes : (logs after : List Source) → AllStay logs after →
-    [] ≡ map place_of (filter (λ (log : Source). lacks_source after log.number) logs)
+nothing_goes : (logs after : List LogRow) → AllStay logs after →
+    [] ≡ map place_of (filter (λ (log : LogRow). lacks_source after log.number) logs)
 nothing_goes logs after stay =
     ap (map place_of)
-    (sym (none_fails (λ (log : Source). lacks_source after log.number) logs (λ log has. ap not (stay log has))))
+    (sym (none_fails (λ (log : LogRow). lacks_source after log.number) logs (λ log has. ap not (stay log has))))
 
-as_they_are : (logs : List Source) → AllStay logs logs
+as_they_are : (logs : List LogRow) → AllStay logs logs
 as_they_are logs log has = has_number logs log log.number has refl
 
-stay_settled : (registrations : List Registration) (now : ℕ) (logs : List Source) →
+stay_settled : (registrations : List Registration) (now : ℕ) (logs : List LogRow) →
     AllStay logs (map (settled_one registrations now) logs)
 stay_settled registrations now logs log has =
     has_number (map (settled_one registrations now) logs) (settled_one registrations now log) log.number
@@ -127,43 +127,43 @@ all_pass : {X : Type 0} (test : X → Bool) (xs : List X) → ((x : X) → test 
 all_pass test [] each = refl
 all_pass {X = X} test (x ∷ xs) each = rw (each x) (ap (λ (ys : List X). x ∷ ys) (all_pass test xs each))
 
-all_go : (logs : List Source) →
-    map place_of logs ≡ map place_of (filter (λ (log : Source). lacks_source [] log.number) logs)
-all_go logs = ap (map place_of) (all_pass (λ (log : Source). lacks_source [] log.number) logs (λ log. refl))
+all_go : (logs : List LogRow) →
+    map place_of logs ≡ map place_of (filter (λ (log : LogRow). lacks_source [] log.number) logs)
+all_go logs = ap (map place_of) (all_pass (λ (log : LogRow). lacks_source [] log.number) logs (λ log. refl))
 
 -- ---- at a tick
 
 -- the two have the logs of the same numbers at the same places
-abbrev SamePlaces : List Source → List Source → Type 0
+abbrev SamePlaces : List LogRow → List LogRow → Type 0
 SamePlaces logs others =
     (test : ℕ → Bool) →
-    map place_of (filter (λ (log : Source). test log.number) logs)
-    ≡ map place_of (filter (λ (log : Source). test log.number) others)
+    map place_of (filter (λ (log : LogRow). test log.number) logs)
+    ≡ map place_of (filter (λ (log : LogRow). test log.number) others)
 
-one_passes : (b : Bool) (one other : Source) (some more : List Source) → place_of one ≡ place_of other →
+one_passes : (b : Bool) (one other : LogRow) (some more : List LogRow) → place_of one ≡ place_of other →
     map place_of some ≡ map place_of more →
     map place_of (cond b (one ∷ some) some) ≡ map place_of (cond b (other ∷ more) more)
 one_passes true one other some more same rest = (λ i. same i ∷ rest i)
 one_passes false one other some more same rest = rest
 
-one_by_number : (test : ℕ → Bool) (one other : Source) (some more : List Source) → one.number ≡ other.number →
+one_by_number : (test : ℕ → Bool) (one other : LogRow) (some more : List LogRow) → one.number ≡ other.number →
     place_of one ≡ place_of other → map place_of some ≡ map place_of more →
     map place_of (cond (test one.number) (one ∷ some) some) ≡ map place_of (cond (test other.number) (other ∷ more) more)
 one_by_number test one other some more number same rest =
     subst (λ (n : ℕ). map place_of (cond (test n) (one ∷ some) some) ≡ map place_of (cond (test other.number) (other ∷ more) more))
     (sym number) (one_passes (test other.number) one other some more same rest)
 
-settled_place : (b : Bool) (now : ℕ) (log : Source) → place_of (cond b log (left_alone now log)) ≡ place_of log
+settled_place : (b : Bool) (now : ℕ) (log : LogRow) → place_of (cond b log (left_alone now log)) ≡ place_of log
 settled_place true now log = refl
 settled_place false now log = refl
 
-settled_places : (registrations : List Registration) (now : ℕ) (logs : List Source) →
+settled_places : (registrations : List Registration) (now : ℕ) (logs : List LogRow) →
     SamePlaces (map (settled_one registrations now) logs) logs
 settled_places registrations now [] test = refl
 settled_places registrations now (log ∷ logs) test =
     one_by_number test (settled_one registrations now log) log
-    (filter (λ (l : Source). test l.number) (map (settled_one registrations now) logs))
-    (filter (λ (l : Source). test l.number) logs)
+    (filter (λ (l : LogRow). test l.number) (map (settled_one registrations now) logs))
+    (filter (λ (l : LogRow). test l.number) logs)
     (settled_number (is_used registrations log.number) now log)
     (settled_place (is_used registrations log.number) now log)
     (settled_places registrations now logs test)
@@ -187,13 +187,13 @@ same_pass test other (x ∷ xs) each =
     ) refl
 
 -- that a log that goes has no other of its number left
-goes : (last now : ℕ) (silent : List ℕ) (logs : List Source) (log : Source) → Rises source_number 0 last logs →
+goes : (last now : ℕ) (silent : List ℕ) (logs : List LogRow) (log : LogRow) → Rises source_number 0 last logs →
     Contains logs log → is_closing now silent log ≡ true → lacks_source (filter (stays_live now silent) logs) log.number ≡ true
 goes last now silent logs log up has closes =
     ⊎_elim
     (λ there.
-    let found = some_passes (λ (other : Source). other.number == log.number) (filter (stays_live now silent) logs) there in
-    let other : Source = found.0 in
+    let found = some_passes (λ (other : LogRow). other.number == log.number) (filter (stays_live now silent) logs) there in
+    let other : LogRow = found.0 in
     let same : other ≡ log =
     rises_unique source_number 0 last logs other log up
     (left_was_there (stays_live now silent) logs other found.1.stands) has
@@ -207,14 +207,14 @@ goes last now silent logs log up has closes =
     (λ lacks. ap not lacks)
     (cases_Bool (has_source (filter (stays_live now silent) logs) log.number))
 
-stays : (now : ℕ) (silent : List ℕ) (logs : List Source) (log : Source) → Contains logs log →
+stays : (now : ℕ) (silent : List ℕ) (logs : List LogRow) (log : LogRow) → Contains logs log →
     is_closing now silent log ≡ false → lacks_source (filter (stays_live now silent) logs) log.number ≡ false
 stays now silent logs log has lasts =
     ap not
     (has_number (filter (stays_live now silent) logs) log log.number
     (passes_are_left (stays_live now silent) logs log (ap not lasts) has) refl)
 
-closing_are_lacked : (last now : ℕ) (silent : List ℕ) (logs : List Source) (log : Source) → Rises source_number 0 last logs →
+closing_are_lacked : (last now : ℕ) (silent : List ℕ) (logs : List LogRow) (log : LogRow) → Rises source_number 0 last logs →
     Contains logs log → is_closing now silent log ≡ lacks_source (filter (stays_live now silent) logs) log.number
 closing_are_lacked last now silent logs log up has =
     ⊎_elim (λ closes. closes ∙ sym (goes last now silent logs log up has closes))
@@ -226,12 +226,12 @@ closing_are_lacked last now silent logs log up has =
 abbrev ClosesGone : State → Draft → Type 0
 ClosesGone s draft =
     draft.closes
-    ≡ map place_of (filter (λ (log : Source). lacks_source draft.after.streams.sources log.number) s.streams.sources)
+    ≡ map place_of (filter (λ (log : LogRow). lacks_source draft.after.streams.sources log.number) s.streams.sources)
 
 command_closes : (s : State) (now handle : ℕ) (bytes : List ℕ) → Cases (ClosesGone s) (at_moment s now) handle bytes
 unfolding at_moment heard refused replied told subscribed with_subscription subscribed_in published with_directed_publication with_publication replied_opening unpublished unregistered unsubscribed unsubscribed_in keep_alive counted with_counter valued uncounted directed with_destination recalled without_destination close left left_in settled terminated stopped_for_good
 command_closes s now handle bytes =
-    let logs : List Source = s.streams.sources in
+    let logs : List LogRow = s.streams.sources in
     let same = nothing_goes logs logs (as_they_are logs) in
     record {
       unheard = λ correlation refusal plain not_heard. same;
@@ -260,10 +260,10 @@ ticked_closes : (s between : State) (clients silent : List ℕ) → AreRising be
     SamePlaces between.streams.sources s.streams.sources → ClosesGone s (ticked between clients silent)
 unfolding ticked closed_past closed closing_of
 ticked_closes s between clients silent rises same =
-    let logs : List Source = between.streams.sources in
-    let left' : List Source = filter (stays_live between.moment silent) logs in
+    let logs : List LogRow = between.streams.sources in
+    let left' : List LogRow = filter (stays_live between.moment silent) logs in
     ap (map place_of)
-    (same_pass (is_closing between.moment silent) (λ (log : Source). lacks_source left' log.number) logs
+    (same_pass (is_closing between.moment silent) (λ (log : LogRow). lacks_source left' log.number) logs
     (λ log has. closing_are_lacked between.last_number between.moment silent logs log rises.sources has))
     ∙ same (lacks_source left')
 
@@ -300,27 +300,27 @@ draft_closes s (Setup now local from setup) inputs rises =
 -- ---- the law
 
 -- those that are told are known by their numbers
-told_are : (test : ℕ → Bool) (logs : List Source) (log : Source) → Contains logs log →
+told_are : (test : ℕ → Bool) (logs : List LogRow) (log : LogRow) → Contains logs log →
     list_any (λ (closed : LogPlace). closed.source == log.number)
-    (map place_of (filter (λ (one : Source). test one.number) logs))
+    (map place_of (filter (λ (one : LogRow). test one.number) logs))
     ≡ test log.number
 told_are test logs log has =
-    let told : List LogPlace = map place_of (filter (λ (one : Source). test one.number) logs) in
+    let told : List LogPlace = map place_of (filter (λ (one : LogRow). test one.number) logs) in
     ⊎_elim
     (λ passes.
     any_of (λ (closed : LogPlace). closed.source == log.number) told (place_of log)
-    (mapped place_of (filter (λ (one : Source). test one.number) logs) log
-    (passes_are_left (λ (one : Source). test one.number) logs log passes has)) (eq-eqb log.number log.number refl)
+    (mapped place_of (filter (λ (one : LogRow). test one.number) logs) log
+    (passes_are_left (λ (one : LogRow). test one.number) logs log passes has)) (eq-eqb log.number log.number refl)
     ∙ sym passes)
     (λ fails.
     ⊎_elim
     (λ any.
     let found : Found (λ (closed : LogPlace). closed.source == log.number) told =
     found_of (λ (closed : LogPlace). closed.source == log.number) told any in
-    let image : IsImage place_of (filter (λ (one : Source). test one.number) logs) found.one =
-    from_map place_of (filter (λ (one : Source). test one.number) logs) found.one found.there in
+    let image : IsImage place_of (filter (λ (one : LogRow). test one.number) logs) found.one =
+    from_map place_of (filter (λ (one : LogRow). test one.number) logs) found.one found.there in
     let passes : test image.of.number ≡ true =
-    passes_test (λ (one : Source). test one.number) logs image.of image.stood in
+    passes_test (λ (one : LogRow). test one.number) logs image.of image.stood in
     let same : image.of.number ≡ log.number =
     sym (ap (λ (place : LogPlace). place.source) image.is) ∙ eqb-true found.one.source log.number found.passes in
     let never : false ≡ true = sym fails ∙ sym (ap test same) ∙ passes in
@@ -330,21 +330,21 @@ told_are test logs log has =
     (cases_Bool (test log.number))
 
 -- what the event's own rule leaves of that number is the same log
-same_number : (s : State) (event : Event) (inputs : Inputs) (log other : Source) → AreRising s →
+same_number : (s : State) (event : Event) (inputs : Inputs) (log other : LogRow) → AreRising s →
     Contains s.streams.sources log → Contains (drafted s event inputs).after.streams.sources other →
     other.number ≡ log.number → IsSameLog other log
 same_number s event inputs log other rises has there same =
     let low : log.number ≤ s.last_number = ((are_drawn s rises).sources log has).below in
     ⊎_elim
     (λ (was : WasLive s.streams other).
-    let number : was.before.number ≡ log.number = sym (ap (λ (one : Source). one.number) was.same) ∙ same in
+    let number : was.before.number ≡ log.number = sym (ap (λ (one : LogRow). one.number) was.same) ∙ same in
     let is : was.before ≡ log =
     rises_unique source_number 0 s.last_number s.streams.sources was.before log rises.sources was.stood has number in
     was.same ∙ ap log_of is)
     (λ others.
     ⊎_elim
     (λ (made : IsLogMadeBy s event other).
-    let high : other.number ≡ s.last_number + 1 = ap (λ (one : Source). one.number) made.made_is in
+    let high : other.number ≡ s.last_number + 1 = ap (λ (one : LogRow). one.number) made.made_is in
     absurd (omega (arith, low, high, same)))
     (λ (made : IsImageMadeBy s event other).
     let high : other.number ≡ s.last_number + 1 = image_number s event other made in
@@ -358,7 +358,7 @@ either_way true true kept none one = ap not (sym (none (inr refl)))
 either_way true false kept none one = ap not (sym (one refl refl))
 either_way false unread kept none one = ap not (sym (none (inl refl)))
 
-module _ (s : State) (event : Event) (inputs : Inputs) (log : Source) (rises : AreRising s)
+module _ (s : State) (event : Event) (inputs : Inputs) (log : LogRow) (rises : AreRising s)
     (has : Contains s.streams.sources log) where
   abbrev after : State
   after = (drafted s event inputs).after
@@ -374,8 +374,8 @@ module _ (s : State) (event : Event) (inputs : Inputs) (log : Source) (rises : A
   none_kept why =
       ⊎_elim
       (λ any.
-      let found : Found (λ (other : Source). other.number == log.number) (filter (is_kept pairs) after.streams.sources) =
-      found_of (λ (other : Source). other.number == log.number) (filter (is_kept pairs) after.streams.sources) any in
+      let found : Found (λ (other : LogRow). other.number == log.number) (filter (is_kept pairs) after.streams.sources) =
+      found_of (λ (other : LogRow). other.number == log.number) (filter (is_kept pairs) after.streams.sources) any in
       let there : Contains after.streams.sources found.one =
       left_was_there (is_kept pairs) after.streams.sources found.one found.there in
       let number : found.one.number ≡ log.number = eqb-true found.one.number log.number found.passes in
@@ -402,8 +402,8 @@ module _ (s : State) (event : Event) (inputs : Inputs) (log : Source) (rises : A
       has_source (filter (is_kept (pairs_of (drafted s event inputs).after)) (drafted s event inputs).after.streams.sources) log.number
       ≡ true
   one_kept any read =
-      let found : Found (λ (other : Source). other.number == log.number) after.streams.sources =
-      found_of (λ (other : Source). other.number == log.number) after.streams.sources any in
+      let found : Found (λ (other : LogRow). other.number == log.number) after.streams.sources =
+      found_of (λ (other : LogRow). other.number == log.number) after.streams.sources any in
       let number : found.one.number ≡ log.number = eqb-true found.one.number log.number found.passes in
       let same : is_unread pairs found.one ≡ is_unread pairs log =
       unread_alike pairs found.one log (same_number s event inputs log found.one rises has found.there number) in

@@ -4,9 +4,9 @@ use Rattle.std.specs.List.{Contains, list_any}
 use Rattle.std.proofs.lemmas.Bool.{eq-eqb, lt-ltb, or_left, or_right}
 use Rattle.std.proofs.lemmas.List.Elements.{All-contains, Contains-append_cases, filter_passes}
 use Rattle.driver_core.specs.Change.{Change}
-use Rattle.driver_core.specs.declared.event.Event.{Event}
-use Rattle.driver_core.specs.declared.event.Event.TheVariants.{Tick}
-use Rattle.driver_core.specs.declared.event.Inputs.{Inputs}
+use Rattle.driver_core.specs.declared.state.event.Event.{Event}
+use Rattle.driver_core.specs.declared.state.event.Event.TheVariants.{Tick}
+use Rattle.driver_core.specs.declared.state.event.Inputs.{Inputs}
 use Rattle.driver_core.specs.Commands.{heard, at_request}
 use Rattle.driver_core.specs.Conduct.{coming_to, conduct, drafted, state_of}
 use Rattle.driver_core.specs.Leaving.{all_left}
@@ -21,7 +21,7 @@ use Rattle.driver_laws.specs.ClosingLaws.{Closes, IsClosed, IsPastBy, IsSameLog,
 use Rattle.driver_laws.specs.LeavingLaws.{IsTerminatedBy}
 use Rattle.client_registry.specs.declared.client.Client.{Client}
 use Rattle.stream_registry.specs.declared.lingering.LogPlace.{LogPlace}
-use Rattle.stream_registry.specs.declared.row.Source.{Source}
+use Rattle.stream_registry.specs.declared.row.LogRow.{LogRow}
 use Rattle.stream_registry.specs.Lingering.{closing_of, is_closing, is_image_of, is_past, is_past_since, place_of}
 use Rattle.stream_registry.specs.Origins.{lingering_since}
 use Rattle.log_readers.specs.Unread.{is_left, is_unread}
@@ -38,7 +38,7 @@ past_is : (linger now since : ℕ) (lingers : Option ℕ) → lingers ≡ Some s
     is_past_since linger now lingers ≡ true
 past_is linger now since lingers is long = rw is (lt-ltb linger (now - since) long)
 
-ticked_closes : {Goes : ℕ → Type 0} (s between : State) (now : ℕ) (silent : List ℕ) (log : Source) →
+ticked_closes : {Goes : ℕ → Type 0} (s between : State) (now : ℕ) (silent : List ℕ) (log : LogRow) →
     Left (max s.moment now) (at_moment s now) between Goes → Contains s.streams.sources log →
     is_closing (max s.moment now) silent log ≡ true →
     Contains (closing_of between.streams (max s.moment now) silent) (place_of log)
@@ -46,7 +46,7 @@ unfolding closing_of at_moment
 ticked_closes s between now silent log leaves has closes =
     let moment = max s.moment now in
     let there = leaves.logs log has in
-    let goes : Source → Bool = is_closing moment silent in
+    let goes : LogRow → Bool = is_closing moment silent in
     let same : IsSameLog there.0 log = same_but_since moment log there.0 there.2 in
     rw (sym (place_settles moment log there.0 there.2))
     (mapped place_of (filter goes between.streams.sources) there.0
@@ -54,7 +54,7 @@ ticked_closes s between now silent log leaves has closes =
     (ap₂ (λ (b c : Bool). b || c) (past_settles moment log there.0 there.2) (image_alike silent there.0 log same)
     ∙ closes) there.1))
 
-tick_closes : (s : State) (now : ℕ) (inputs : Inputs) (log : Source) → Contains s.streams.sources log →
+tick_closes : (s : State) (now : ℕ) (inputs : Inputs) (log : LogRow) → Contains s.streams.sources log →
     is_closing (max s.moment now) inputs.silent log ≡ true → Contains (drafted s (Tick now) inputs).closes (place_of log)
 unfolding drafted tick ticked closed_past
 tick_closes s now inputs log has closes =
@@ -63,7 +63,7 @@ tick_closes s now inputs log has closes =
     let leaves = each_left start (max s.moment now) (late start) (moment_of s now) in
     rw leaves.moment (ticked_closes s between now inputs.silent log leaves has closes)
 
-past_closes : (s : State) (event : Event) (inputs : Inputs) (log : Source) → Contains s.streams.sources log →
+past_closes : (s : State) (event : Event) (inputs : Inputs) (log : LogRow) → Contains s.streams.sources log →
     IsPastBy s event log → Contains (drafted s event inputs).closes (place_of log)
 past_closes s event inputs log has by =
     rw by.event_is
@@ -71,20 +71,20 @@ past_closes s event inputs log has by =
     (or_left (is_past (max s.moment by.moment) log) (is_image_of inputs.silent log)
     (past_is log.measures.linger (max s.moment by.moment) by.since (lingering_since log) by.lingers by.too_long)))
 
-silent_closes : (s : State) (event : Event) (inputs : Inputs) (log : Source) → Contains s.streams.sources log →
+silent_closes : (s : State) (event : Event) (inputs : Inputs) (log : LogRow) → Contains s.streams.sources log →
     IsSilentBy event inputs log → Contains (drafted s event inputs).closes (place_of log)
 silent_closes s event inputs log has by =
     rw by.event_is
     (tick_closes s by.moment inputs log has
     (or_right (is_past (max s.moment by.moment) log) (is_image_of inputs.silent log) by.silent))
 
-terminated_closes : (s : State) (now handle : ℕ) (client : Client) (correlation : ℕ) (log : Source) →
+terminated_closes : (s : State) (now handle : ℕ) (client : Client) (correlation : ℕ) (log : LogRow) →
     Contains s.streams.sources log →
     Contains (terminated (at_request s now handle) client correlation).closes (place_of log)
 unfolding terminated heard at_moment
 terminated_closes s now handle client correlation log has = mapped place_of s.streams.sources log has
 
-end_closes : (s : State) (event : Event) (inputs : Inputs) (log : Source) → Contains s.streams.sources log →
+end_closes : (s : State) (event : Event) (inputs : Inputs) (log : LogRow) → Contains s.streams.sources log →
     IsTerminatedBy s event → Contains (drafted s event inputs).closes (place_of log)
 end_closes s event inputs log has by =
     rw (end_is s event inputs by) (terminated_closes s by.moment by.handle by.client by.correlation log has)
@@ -98,15 +98,15 @@ any_of test (y ∷ ys) x has passes =
     (Contains-append_cases (y ∷ []) ys x has)
 
 -- the event's own rule tells of the log, or none reads it any more
-closed_one : (s : State) (event : Event) (inputs : Inputs) (log : Source) → Contains s.streams.sources log →
+closed_one : (s : State) (event : Event) (inputs : Inputs) (log : LogRow) → Contains s.streams.sources log →
     (not (is_left (drafted s event inputs).closes log) || is_unread (pairs_of (drafted s event inputs).after) log) ≡ true →
     Contains (drawn s event inputs).outcome.closes (place_of log)
 unfolding renewed dropping
 closed_one s event inputs log has closes =
-    let goes : Source → Bool = is_closed (renewed s inputs (drafted s event inputs)) in
+    let goes : LogRow → Bool = is_closed (renewed s inputs (drafted s event inputs)) in
     mapped place_of (filter goes s.streams.sources) log (passes_are_left goes s.streams.sources log closes has)
 
-told_one : (s : State) (event : Event) (inputs : Inputs) (log : Source) → Contains s.streams.sources log →
+told_one : (s : State) (event : Event) (inputs : Inputs) (log : LogRow) → Contains s.streams.sources log →
     Contains (drafted s event inputs).closes (place_of log) → Contains (drawn s event inputs).outcome.closes (place_of log)
 told_one s event inputs log has told =
     let closes : List LogPlace = (drafted s event inputs).closes in
@@ -116,7 +116,7 @@ told_one s event inputs log has told =
     closed_one s event inputs log has
     (or_left (not (is_left closes log)) (is_unread (pairs_of (drafted s event inputs).after) log) (rw any refl))
 
-told_of : (s : State) (event : Event) (inputs : Inputs) (log : Source) → Contains s.streams.sources log →
+told_of : (s : State) (event : Event) (inputs : Inputs) (log : LogRow) → Contains s.streams.sources log →
     Closes s event inputs log → Contains (drawn s event inputs).outcome.closes (place_of log)
 told_of s event inputs log has closes =
     ⊎_elim (λ past. told_one s event inputs log has (past_closes s event inputs log has past))
@@ -135,11 +135,11 @@ told_of s event inputs log has closes =
 -- ---- no log of its number is live
 
 -- a log behind the event is none of those that close
-is_left_behind : (s : State) (change : Change) (log : Source) → MovesLogs s change →
+is_left_behind : (s : State) (change : Change) (log : LogRow) → MovesLogs s change →
     Contains change.after.streams.sources log → is_left change.outcome.closes (log_of log) ≡ true
 is_left_behind s change log moves has =
-    let stays : Source → Bool = is_left change.outcome.closes in
-    let before : List Source = filter stays (map log_of s.streams.sources) in
+    let stays : LogRow → Bool = is_left change.outcome.closes in
+    let before : List LogRow = filter stays (map log_of s.streams.sources) in
     let there : Contains (before ++ moves.opened) (log_of log) =
     rw (sym moves.logs) (mapped log_of change.after.streams.sources log has) in
     ⊎_elim
@@ -149,7 +149,7 @@ is_left_behind s change log moves has =
     (filter_passes stays moves.opened) (rw moves.stays opens))
     (Contains-append_cases before moves.opened (log_of log) there)
 
-none_live : (s : State) (change : Change) (log other : Source) → MovesLogs s change →
+none_live : (s : State) (change : Change) (log other : LogRow) → MovesLogs s change →
     Contains change.outcome.closes (place_of log) → Contains change.after.streams.sources other →
     other.number ≡ log.number → ⊥
 none_live s change log other moves told has same =
@@ -163,12 +163,12 @@ none_live s change log other moves told has same =
 -- ---- the law
 
 -- the registry to which the event comes has the same logs
-told_at : (s : State) (event : Event) (inputs : Inputs) (log : Source) → Contains s.streams.sources log →
+told_at : (s : State) (event : Event) (inputs : Inputs) (log : LogRow) → Contains s.streams.sources log →
     Closes (coming_to s event) event inputs log → Contains (conduct s event inputs).outcome.closes (place_of log)
 unfolding conduct renewed dropping ruled
 told_at s event inputs log has closes = told_of (coming_to s event) event inputs log has closes
 
-closed_by : (s : State) (event : Event) (inputs : Inputs) (log : Source) →
+closed_by : (s : State) (event : Event) (inputs : Inputs) (log : LogRow) →
     MovesLogs s (conduct s event inputs) → Contains s.streams.sources log → Closes (coming_to s event) event inputs log →
     IsClosed (conduct s event inputs) log
 closed_by s event inputs log moves has closes =

@@ -4,12 +4,9 @@ use Rattle.std.specs.List.{All}
 use Rattle.std.specs.Option.{is_some}
 use Rattle.std.proofs.lemmas.Bool.{eq-eqb}
 use Rattle.std.proofs.lemmas.List.Elements.{All-contains}
-use Rattle.any_log.specs.Asking.{reply_by}
-use Rattle.any_log.specs.Held.{for_publication}
-use Rattle.any_log.specs.Whole.{AnyWhole, whole, made_for as made_any}
 use Rattle.channel_uri.specs.declared.address.Address.{Address}
-use Rattle.driver_core.specs.declared.send_request.Outlet.{Outlet}
-use Rattle.driver_core.specs.declared.settings.Settings.{Settings}
+use Rattle.driver_core.specs.declared.asked.send_request.Outlet.{Outlet}
+use Rattle.driver_core.specs.declared.state.settings.Settings.{Settings}
 use Rattle.driver_core.specs.PublicationRequests.{publication_at}
 use Rattle.driver_core.specs.Renewal.{source_at}
 use Rattle.driver_core.specs.SendRequests.{is_sent, lingers_by, sending_of}
@@ -27,28 +24,30 @@ use Rattle.driver_laws.proofs.WellLemmas.{WellIf, WellLog, ends_well}
 use Rattle.driver_laws.proofs.WholeLemmas.{IsWell}
 use Rattle.driver_laws.proofs.WireLemmas.{Cuts, datagram_cuts, resends_frames}
 use Rattle.driver_laws.proofs.WorldLemmas.{of_worlds}
-use Rattle.driver_steps.specs.declared.answer.Answer.TheVariants.{Resent, Sent}
+use Rattle.log_steps.specs.declared.answer.Answer.TheVariants.{Resent, Sent}
 use Rattle.driver_steps.specs.declared.step.Step.TheVariants.{Packet, Send}
-use Rattle.driver_steps.specs.Ends.{RunEnd, Moved, log_at, with_log}
-use Rattle.driver_steps.specs.Hearing.{answer_asked}
-use Rattle.driver_steps.specs.Idents.{ident_of, made_by, made_of}
-use Rattle.driver_steps.specs.Moves.{WholeLog}
-use Rattle.driver_steps.specs.Seen.{moved_seen}
-use Rattle.driver_steps.specs.Sending.{expired, pace_of}
+use Rattle.driver_steps.specs.Ends.{log_at, Moved, moved_by, RunEnd, with_log}
+use Rattle.log_steps.specs.Hearing.{answer_asked}
+use Rattle.log_steps.specs.Idents.{ident_of, made_by, made_of}
+use Rattle.log_steps.specs.Moves.{WholeLog}
+use Rattle.log_steps.specs.Sending.{expired, pace_of}
 use Rattle.driver_steps.proofs.DecisionLemmas.{made_at}
 use Rattle.driver_steps.proofs.FollowLemmas.{Follows, ends_follow}
 use Rattle.driver_steps.proofs.FoundLemmas.{found_source}
 use Rattle.driver_steps.proofs.LiveLemmas.{found_log}
 use Rattle.frame_codec.specs.declared.nak.Nak.{Nak}
 use Rattle.frame_codec.specs.Datagram.{nak, packet_of}
-use Rattle.publication_sender.specs.Cutting.{cut_of, datagram_of}
-use Rattle.publication_sender.specs.Resending.{asking_in, resent_of}
+use Rattle.log_traffic.specs.Asking.{reply_by}
+use Rattle.log_traffic.specs.Held.{for_publication}
+use Rattle.log_traffic.specs.Whole.{AnyWhole, whole, made_for as made_any}
+use Rattle.log_traffic.specs.Cutting.{cut_of, datagram_of}
+use Rattle.log_traffic.specs.Resending.{asking_in, resent_of}
 use Rattle.retransmit_gate.specs.declared.answer.Answer.{Answer as Word}
 use Rattle.retransmit_gate.specs.declared.answer.Answer.TheVariants as words
 use Rattle.retransmit_gate.specs.ResendLaws.{answer_to}
 use Rattle.stream_registry.specs.declared.row.Origin.{Origin}
 use Rattle.stream_registry.specs.declared.row.Origin.TheVariants.{Published, Remote}
-use Rattle.stream_registry.specs.declared.row.Source.{Source}
+use Rattle.stream_registry.specs.declared.row.LogRow.{LogRow}
 use Rattle.stream_registry.specs.Origins.{lingering_since}
 use Rattle.term_log.specs.declared.ident.Ident.{Ident}
 use Rattle.term_log.specs.Ident.{IsIdent}
@@ -56,7 +55,7 @@ use Rattle.term_log.specs.Whole.{Whole}
 
 -- ---- the sizes of a live log are sound
 
-sizes_sound : (settings : Settings) (log : Source) → AreSizes log.measures → IsIdent (ident_of settings log)
+sizes_sound : (settings : Settings) (log : LogRow) → AreSizes log.measures → IsIdent (ident_of settings log)
 sizes_sound settings log sizes = record {
   term_low = sizes.term_low;
   term_high = sizes.term_high;
@@ -71,7 +70,7 @@ sizes_sound settings log sizes = record {
 same_ident : (i j : Ident) → for_publication i ≡ for_publication j → i ≡ j
 same_ident i j is = cc is
 
-made_sound : (settings : Settings) (log : Source) (origin : Origin) (w : Whole) → AreSizes log.measures →
+made_sound : (settings : Settings) (log : LogRow) (origin : Origin) (w : Whole) → AreSizes log.measures →
     made_any (whole w) ≡ made_by settings log origin → IsIdent w.ident
 made_sound settings log (Published exclusive since) w sizes is =
     subst IsIdent (sym (same_ident w.ident (ident_of settings log) is)) (sizes_sound settings log sizes)
@@ -81,11 +80,11 @@ live_sound : (e : RunEnd) → Follows e → (source : ℕ) (log : WholeLog) (w :
     log.whole ≡ whole w → IsIdent w.ident
 live_sound e follows source log w found is =
     let settings : Settings = e.registry.settings in
-    let sources : List Source = e.registry.streams.sources in
+    let sources : List LogRow = e.registry.streams.sources in
     let row = row_of settings e.logs sources source log follows.logs.made found in
-    let there = found_in (λ (one : Source). one.number == source) sources row.0 row.1 in
+    let there = found_in (λ (one : LogRow). one.number == source) sources row.0 row.1 in
     let sizes : AreSizes row.0.measures =
-    All-contains (λ (one : Source). AreSizes one.measures) sources row.0 follows.sound.sizes there.stands in
+    All-contains (λ (one : LogRow). AreSizes one.measures) sources row.0 follows.sound.sizes there.stands in
     let made : made_any log.whole ≡ made_of settings row.0 = made_at settings e.logs sources source log row.0 follows.logs.made found row.1 in
     made_sound settings row.0 row.0.origin w sizes (sym (ap (λ (any : AnyWhole). made_any any) is) ∙ made)
 
@@ -137,7 +136,7 @@ cut_leaves s e now source log w lingers bytes outlets found cuts =
 same_bytes : (bytes others : List ℕ) (outlets more : List Outlet) → Sent bytes outlets ≡ Sent others more → others ≡ bytes
 same_bytes bytes others outlets more is = cc is
 
-cut_sent : (s : State) (e : RunEnd) → Follows e → All WellLog e.logs → (now source : ℕ) (publication : Source) (log : WholeLog) (w : Whole)
+cut_sent : (s : State) (e : RunEnd) → Follows e → All WellLog e.logs → (now source : ℕ) (publication : LogRow) (log : WholeLog) (w : Whole)
     (what : Moved) (bytes : List ℕ) (outlets : List Outlet) (o : Option (List ℕ)) →
     sending_of s source ≡ Some (is_some (lingering_since publication)) → log_at e.logs source ≡ Some log → log.whole ≡ whole w →
     datagram_of (pace_of s.settings) now (is_some (lingering_since publication)) w ≡ o →
@@ -165,11 +164,11 @@ cut_sent s e follows well now source publication log w what bytes outlets (Some 
       leaves = cut_leaves s e now source log w (is_some (lingering_since publication)) others decided.outlets found cuts;
     }))
 
-cut_there : (s : State) (e : RunEnd) → Follows e → All WellLog e.logs → SendsAreDecidedBy s e → (now source : ℕ) (publication : Source)
+cut_there : (s : State) (e : RunEnd) → Follows e → All WellLog e.logs → SendsAreDecidedBy s e → (now source : ℕ) (publication : LogRow)
     (bytes : List ℕ) (outlets : List Outlet) (sends : Bool) (l : Option WholeLog) →
     source_at s.streams.sources source ≡ Some publication → is_sent publication ≡ sends → log_at e.logs source ≡ l →
-    Sent bytes outlets ≡ (moved_seen s e (Send now source)).answer →
-    IsCutOf s e (moved_seen s e (Send now source)).after source bytes
+    Sent bytes outlets ≡ (moved_by s e (Send now source)).answer →
+    IsCutOf s e (moved_by s e (Send now source)).after source bytes
 unfolding sending_of
 cut_there s e follows well decides now source publication bytes outlets false l is sends found told =
     let none : sending_of s source ≡ None =
@@ -183,13 +182,13 @@ cut_there s e follows well decides now source publication bytes outlets true (So
     let there = decides.there now source publication log is sends found in
     let lingers : sending_of s source ≡ Some (is_some (lingering_since publication)) =
     ap lingers_by is ∙ ap (λ (b : Bool). cond b (Some (is_some (lingering_since publication))) None) sends in
-    cut_sent s e follows well now source publication log there.0 (moved_seen s e (Send now source)) bytes outlets _ lingers found there.1 refl
+    cut_sent s e follows well now source publication log there.0 (moved_by s e (Send now source)) bytes outlets _ lingers found there.1 refl
     there.2 told
 
 cut_by : (s : State) (e : RunEnd) → Follows e → All WellLog e.logs → SendsAreDecidedBy s e → (now source : ℕ) (bytes : List ℕ)
-    (outlets : List Outlet) (o : Option Source) → source_at s.streams.sources source ≡ o →
-    Sent bytes outlets ≡ (moved_seen s e (Send now source)).answer →
-    IsCutOf s e (moved_seen s e (Send now source)).after source bytes
+    (outlets : List Outlet) (o : Option LogRow) → source_at s.streams.sources source ≡ o →
+    Sent bytes outlets ≡ (moved_by s e (Send now source)).answer →
+    IsCutOf s e (moved_by s e (Send now source)).after source bytes
 unfolding sending_of
 cut_by s e follows well decides now source bytes outlets None is told =
     let answer = ap (λ (m : Moved). m.answer) (decides.gone now source (ap lingers_by is)) in
@@ -207,7 +206,7 @@ word_resends from to fields w words.Lingering datagrams is = absurd (cc is)
 word_resends from to fields w words.Busy datagrams is = absurd (cc is)
 word_resends from to fields w words.Resend datagrams is = cc is
 
-nak_carries : (s : State) (e : RunEnd) (now : ℕ) (from to : Address) (fields : Nak) (publication : Source) (log : WholeLog) (w : Whole)
+nak_carries : (s : State) (e : RunEnd) (now : ℕ) (from to : Address) (fields : Nak) (publication : LogRow) (log : WholeLog) (w : Whole)
     (what : Moved) (datagrams : List (List ℕ)) (allow : Bool) → AreSound w → (resend_verdict s from publication).allow ≡ allow →
     NakIsDecidedBy s e now from fields publication log w what → Resent to datagrams ≡ what.answer →
     CarryExactly w.ident (frames_named w fields) datagrams
@@ -222,9 +221,9 @@ nak_carries s e now from to fields publication log w what datagrams true sound i
     (resends_frames w fields (record { ident = sound.ident; run = sound.well.run }))
 
 nak_there : (s : State) (e : RunEnd) → Follows e → All WellLog e.logs → NaksAreDecidedBy s e → (now : ℕ) (local from to : Address)
-    (bytes : List ℕ) (datagrams : List (List ℕ)) (fields : Nak) (publication : Source) (l : Option WholeLog) →
+    (bytes : List ℕ) (datagrams : List (List ℕ)) (fields : Nak) (publication : LogRow) (l : Option WholeLog) →
     packet_of bytes ≡ Ok (nak fields) → publication_at s fields.session_id fields.stream_id ≡ Some publication →
-    log_at e.logs publication.number ≡ l → Resent to datagrams ≡ (moved_seen s e (Packet now local from bytes)).answer →
+    log_at e.logs publication.number ≡ l → Resent to datagrams ≡ (moved_by s e (Packet now local from bytes)).answer →
     IsResentOf s e bytes datagrams
 nak_there s e follows well decides now local from to bytes datagrams fields publication None read is found told =
     let answer = ap (λ (m : Moved). m.answer) (decides.closed now local from bytes fields publication read is found) in
@@ -241,14 +240,14 @@ nak_there s e follows well decides now local from to bytes datagrams fields publ
       live = found;
       frames = there.0;
       frames_are = there.1;
-      carry = nak_carries s e now from to fields publication log there.0 (moved_seen s e (Packet now local from bytes)) datagrams
+      carry = nak_carries s e now from to fields publication log there.0 (moved_by s e (Packet now local from bytes)) datagrams
           (resend_verdict s from publication).allow sound refl there.2 told;
     }
 
 nak_by : (s : State) (e : RunEnd) → Follows e → All WellLog e.logs → NaksAreDecidedBy s e → (now : ℕ) (local from to : Address)
-    (bytes : List ℕ) (datagrams : List (List ℕ)) (fields : Nak) (o : Option Source) →
+    (bytes : List ℕ) (datagrams : List (List ℕ)) (fields : Nak) (o : Option LogRow) →
     packet_of bytes ≡ Ok (nak fields) → publication_at s fields.session_id fields.stream_id ≡ o →
-    Resent to datagrams ≡ (moved_seen s e (Packet now local from bytes)).answer → IsResentOf s e bytes datagrams
+    Resent to datagrams ≡ (moved_by s e (Packet now local from bytes)).answer → IsResentOf s e bytes datagrams
 nak_by s e follows well decides now local from to bytes datagrams fields None read is told =
     let answer = ap (λ (m : Moved). m.answer) (decides.nobody now local from bytes fields read is) in
     absurd (cc (told ∙ answer))

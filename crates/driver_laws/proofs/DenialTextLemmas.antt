@@ -1,6 +1,6 @@
 -- A denial in words.
 use Rattle.std.proofs.Common.{◌≡◌, ℕ, false, Option, Some, None, refl, ap, ◌∙◌, ⊎_elim}
-use Rattle.driver_core.specs.declared.refusal.Refusal.TheVariants.{Denied}
+use Rattle.driver_core.specs.declared.state.refusal.Refusal.TheVariants.{Denied}
 use Rattle.driver_core.specs.Replies.{refusal_text}
 use Rattle.driver_core.specs.State.{State}
 use Rattle.driver_core.specs.Verdicts.{verdict_on}

@@ -4,7 +4,7 @@ use Rattle.std.specs.List.{AllByRecursion, Contains, list_any}
 use Rattle.std.proofs.lemmas.Bool.{cases_Bool, not-true, or_left, or_right}
 use Rattle.std.proofs.lemmas.List.Elements.{All-contains, Contains-append_cases, Contains-append_left, Contains-append_right, Contains-push, filter_passes}
 use Rattle.driver_core.specs.Change.{Change}
-use Rattle.driver_core.specs.declared.outcome.Outcome.{Outcome}
+use Rattle.driver_core.specs.declared.state.outcome.Outcome.{Outcome}
 use Rattle.driver_core.specs.Pairs.{pairs_of}
 use Rattle.driver_core.specs.State.{State}
 use Rattle.driver_core.specs.Unread.{closed_from, dropping, is_closed, without_unread}
@@ -13,7 +13,7 @@ use Rattle.log_readers.specs.Numbering.{Rises as RisesIn, source_of}
 use Rattle.log_readers.specs.Unread.{has_pair, is_kept, is_of_source, is_unread, without_unread as without_unread_in}
 use Rattle.stream_registry.specs.declared.lingering.LogPlace.{LogPlace}
 use Rattle.stream_registry.specs.declared.pairs.Pair.{Pair}
-use Rattle.stream_registry.specs.declared.row.Source.{Source}
+use Rattle.stream_registry.specs.declared.row.LogRow.{LogRow}
 use Rattle.stream_registry.specs.Lingering.{place_of}
 use Rattle.stream_registry.specs.Origins.{is_remote}
 use Rattle.log_readers.proofs.UnreadLemmas.{unread_pairs}
@@ -105,8 +105,8 @@ none_found test (y ∷ ys) none x has =
 -- ---- images that are read
 
 -- each image is read by some subscription
-abbrev pub AreKept : List Pair → List Source → Type 0
-AreKept pairs logs = (log : Source) → Contains logs log → is_kept pairs log ≡ true
+abbrev pub AreKept : List Pair → List LogRow → Type 0
+AreKept pairs logs = (log : LogRow) → Contains logs log → is_kept pairs log ≡ true
 
 kept_by_pair : (remote paired : Bool) → paired ≡ true → not (remote && not paired) ≡ true
 kept_by_pair true true is = refl
@@ -120,13 +120,13 @@ kept_by_kind true false other none kept = absurd (cc kept)
 kept_by_kind false paired other none kept = refl
 
 -- a log of which a pair is stays
-pub kept_of_pair : (pairs : List Pair) (log : Source) (pair : Pair) → Contains pairs pair →
+pub kept_of_pair : (pairs : List Pair) (log : LogRow) (pair : Pair) → Contains pairs pair →
     is_of_source log.number pair ≡ true → is_kept pairs log ≡ true
 kept_of_pair pairs log pair has is =
     kept_by_pair (is_remote log) (has_pair pairs log) (is_any (is_of_source log.number) pairs pair has is)
 
 -- and so it does where there are more pairs
-pub still_kept : (pairs more : List Pair) → ((pair : Pair) → Contains pairs pair → Contains more pair) → (log : Source) →
+pub still_kept : (pairs more : List Pair) → ((pair : Pair) → Contains pairs pair → Contains more pair) → (log : LogRow) →
     is_kept pairs log ≡ true → is_kept more log ≡ true
 still_kept pairs more each log kept =
     ⊎_elim
@@ -144,10 +144,10 @@ change_of after outcome = record { after = after; outcome = outcome }
 pub all_stay : (s : State) → AreKept (pairs_of s) s.streams.sources → without_unread s ≡ s
 unfolding without_unread without_unread_in pairs_of
 all_stay s kept =
-    ap (λ (logs : List Source). record s { streams = record s.streams { sources = logs } })
+    ap (λ (logs : List LogRow). record s { streams = record s.streams { sources = logs } })
     (all_pass (is_kept (pairs_of s)) s.streams.sources kept)
 
-closes_none : (change : Change) (log : Source) → change.outcome.closes ≡ [] → is_kept (pairs_of change.after) log ≡ true →
+closes_none : (change : Change) (log : LogRow) → change.outcome.closes ≡ [] → is_kept (pairs_of change.after) log ≡ true →
     is_closed change log ≡ false
 closes_none change log closes kept =
     rw (closes, not-true (is_unread (pairs_of change.after) log) kept) refl
@@ -170,7 +170,7 @@ drops_nothing s change closes were kept =
 
 -- ---- where images go that none reads, no pair goes
 
-rises_there : (low last : ℕ) (logs : List Source) → Rises (λ (log : Source). log.number) low last logs →
+rises_there : (low last : ℕ) (logs : List LogRow) → Rises (λ (log : LogRow). log.number) low last logs →
     RisesIn source_of low last logs
 rises_there low last [] up = up
 rises_there low last (log ∷ logs) up = (up.0, rises_there log.number last logs up.1)

@@ -1,9 +1,9 @@
 -- Whatever happened.
 use Rattle.std.proofs.Common.{List, [], ◌∷◌}
-use Rattle.driver_core.specs.declared.event.Event.{Event}
-use Rattle.driver_core.specs.declared.event.Inputs.{Inputs}
-use Rattle.driver_core.specs.declared.peer.Peer.{Peer}
-use Rattle.driver_core.specs.declared.settings.Settings.{Settings}
+use Rattle.driver_core.specs.declared.state.event.Event.{Event}
+use Rattle.driver_core.specs.declared.state.event.Inputs.{Inputs}
+use Rattle.driver_core.specs.declared.state.peer.Peer.{Peer}
+use Rattle.driver_core.specs.declared.state.settings.Settings.{Settings}
 use Rattle.driver_core.specs.Conduct.{state_after, state_of}
 use Rattle.driver_core.specs.State.{State, opened}
 use Rattle.driver_laws.specs.Events.{AfterAnyEvents}

@@ -3,15 +3,13 @@ use Rattle.std.proofs.Common.{◌≡◌, ℕ, ◌+◌, ◌<◌, ◌≤◌, ◌==
 use Rattle.std.specs.List.{All}
 use Rattle.std.proofs.lemmas.Bool.{cond_both, eq-eqb, eqb-true, ne_eqb}
 use Rattle.std.proofs.lemmas.List.Elements.{All-append, All-cons, All-filter, All-head, All-map, All-nil, All-tail, All-weaker}
-use Rattle.any_log.specs.Whole.{AnyWhole, whole, rebuilt, beaten, polled as any_polled, position_in, received, rejoined}
-use Rattle.any_log.proofs.StillLemmas.{IsStill}
 use Rattle.driver_core.specs.Change.{Change}
-use Rattle.driver_core.specs.declared.event.Event.{Event}
-use Rattle.driver_core.specs.declared.event.Event.TheVariants.{Attach, Command, Reload, Setup as SetUp, Tick}
-use Rattle.driver_core.specs.declared.event.Inputs.{Inputs}
-use Rattle.driver_core.specs.declared.log_request.LogRequest.{LogRequest}
-use Rattle.driver_core.specs.declared.peer.Peer.{Peer}
-use Rattle.driver_core.specs.declared.settings.Settings.{Settings}
+use Rattle.driver_core.specs.declared.state.event.Event.{Event}
+use Rattle.driver_core.specs.declared.state.event.Event.TheVariants.{Attach, Command, Reload, Setup as SetUp, Tick}
+use Rattle.driver_core.specs.declared.state.event.Inputs.{Inputs}
+use Rattle.driver_core.specs.declared.asked.log_request.LogRequest.{LogRequest}
+use Rattle.driver_core.specs.declared.state.peer.Peer.{Peer}
+use Rattle.driver_core.specs.declared.state.settings.Settings.{Settings}
 use Rattle.driver_core.specs.Attaching.{attached}
 use Rattle.driver_core.specs.Closing.{close, keep_alive}
 use Rattle.driver_core.specs.Commands.{at_request, heard}
@@ -41,37 +39,37 @@ use Rattle.driver_laws.specs.NumberLaws.{AreRising, Rises}
 use Rattle.driver_laws.proofs.LoggedLemmas.{found_in}
 use Rattle.driver_laws.proofs.NumberLemmas.{are_drawn, event_rises, opened_rises}
 use Rattle.driver_laws.proofs.RisingLemmas.{between, rises_kept, rises_mapped, rises_push, rises_up_to}
-use Rattle.driver_steps.specs.declared.answer.Answer.{Answer}
-use Rattle.driver_steps.specs.declared.answer.Answer.TheVariants.{Offered as OfferedAs, Denied, Gone as IsGone, NoMemory}
-use Rattle.driver_steps.specs.declared.answer.Offered.TheVariants.{Closed, TooLong, NotConnected}
+use Rattle.log_steps.specs.declared.answer.Answer.{Answer}
+use Rattle.log_steps.specs.declared.answer.Answer.TheVariants.{Offered as OfferedAs, Denied, Gone as IsGone, NoMemory}
+use Rattle.log_steps.specs.declared.answer.Offered.TheVariants.{Closed, TooLong, NotConnected}
 use Rattle.driver_steps.specs.declared.step.Step.{Step}
 use Rattle.driver_steps.specs.declared.step.Step.TheVariants.{Conductor, Packet, Offer as Offers, Poll as Polls, Image, List as Lists, Send, Value}
-use Rattle.driver_steps.specs.Answers.{offered_as}
-use Rattle.driver_steps.specs.Ends.{RunEnd, Moved, begun, conducted, inputs_of, log_at, logs_after, moved_on, on_log, on_offered_by, opened_for, opening_end, rejoined_log, stays_open, with_log}
-use Rattle.driver_steps.specs.Idents.{begins_by, begins_of}
+use Rattle.log_steps.specs.Answers.{offered_as}
+use Rattle.driver_steps.specs.Ends.{begun, conducted, inputs_of, log_at, logs_after, Moved, moved_by, moved_on, on_log, on_offered, opened_for, opening_end, rejoined_log, RunEnd, stays_open, with_log}
+use Rattle.log_steps.specs.Idents.{begins_by, begins_of}
 use Rattle.driver_steps.specs.Laws.{put_into}
-use Rattle.driver_steps.specs.Moves.{Move, WholeLog, answered, offer_move, offer_to, offer_under, poll_move, poll_under, taken}
-use Rattle.driver_steps.specs.Receiving.{beat_move, receive_move, unheard}
-use Rattle.driver_steps.specs.Recovery.{recovering}
+use Rattle.log_steps.specs.Moves.{Move, WholeLog, answered, offer_move, offer_to, offer_under, poll_move, poll_under, taken}
+use Rattle.log_steps.specs.Receiving.{beat_move, receive_move, unheard}
+use Rattle.log_steps.specs.Recovery.{recovering}
 use Rattle.driver_steps.specs.Runs.{Reading, AreAnswers, IsAnswerTo, end_of, left_by, moved_to, read_by}
-use Rattle.driver_steps.specs.Seen.{moved_seen}
-use Rattle.driver_steps.specs.Sending.{send_move}
+use Rattle.log_steps.specs.Sending.{send_move}
 use Rattle.driver_steps.proofs.EndLemmas.{log_keeps_registry}
 use Rattle.driver_steps.proofs.DecisionLemmas.{stays_left}
 use Rattle.driver_steps.proofs.LiveLemmas.{IsFound, found_log, is_allowed, log_keeps, step_either}
 use Rattle.driver_steps.proofs.PacketLemmas.{packet_cases}
 use Rattle.driver_steps.proofs.QuietLemmas.{IsQuiet, report_cases, send_quiet}
-use Rattle.driver_steps.proofs.ReadLemmas.{holds_by}
 use Rattle.frame_codec.specs.declared.header.TermPlace.{TermPlace}
 use Rattle.frame_codec.specs.Datagram.{packet_of}
 use Rattle.frame_codec.specs.Frame.{Sent}
+use Rattle.log_traffic.specs.Whole.{AnyWhole, whole, rebuilt, beaten, polled as any_polled, position_in, received, rejoined}
+use Rattle.log_traffic.proofs.StillLemmas.{IsStill}
 use Rattle.policy_core.specs.declared.verdict.Verdict.{Verdict}
 use Rattle.policy_core.specs.RuleList.{Rules}
 use Rattle.stream_registry.specs.declared.lingering.LogPlace.{LogPlace}
 use Rattle.stream_registry.specs.declared.pairs.Pair.{Pair}
 use Rattle.stream_registry.specs.declared.row.Origin.{Origin}
 use Rattle.stream_registry.specs.declared.row.Origin.TheVariants.{Published, Remote}
-use Rattle.stream_registry.specs.declared.row.Source.{Source}
+use Rattle.stream_registry.specs.declared.row.LogRow.{LogRow}
 use Rattle.stream_registry.specs.declared.wanted.Adding.{Adding}
 use Rattle.stream_registry.specs.declared.wanted.Adding.TheVariants.{Join, Make}
 use Rattle.stream_registry.specs.declared.wanted.Wanted.{Wanted}
@@ -287,7 +285,7 @@ poll_leaves s client subscription limit = record {
 
 -- ---- an event
 
-begins_has : (fs : List Frame) (settings : Settings) (now : ℕ) (log : Source) (origin : Origin) → fs ≡ [] →
+begins_has : (fs : List Frame) (settings : Settings) (now : ℕ) (log : LogRow) (origin : Origin) → fs ≡ [] →
     HasAny fs (begins_by settings now log origin)
 begins_has fs settings now log (Published exclusive since) is = sym is
 begins_has fs settings now log (Remote address initial_term join) is = tt
@@ -302,9 +300,9 @@ record Opened (all : ℕ → List Frame) (last : ℕ) (logs : List WholeLog) : T
   numbered : Rises source_number 0 last logs
   has : All (Has all) logs
 
-begun_opens : (all : ℕ → List Frame) (before last : ℕ) (t : State) (logs : List WholeLog) (o : Option Source) →
+begun_opens : (all : ℕ → List Frame) (before last : ℕ) (t : State) (logs : List WholeLog) (o : Option LogRow) →
     ((n : ℕ) → before < n → all n ≡ []) → before ≤ last → Rises source_number 0 before logs → All (Has all) logs →
-    ((log : Source) → o ≡ Some log → (before < log.number) × (log.number ≤ last)) → Opened all last (logs ++ begun t o)
+    ((log : LogRow) → o ≡ Some log → (before < log.number) × (log.number ≤ last)) → Opened all last (logs ++ begun t o)
 begun_opens all before last t logs None none more up has new =
     subst (Opened all last) (sym (append-nil logs))
     (record { numbered = rises_up_to source_number 0 before last logs more up; has = has })
@@ -322,10 +320,10 @@ begun_opens all before last t logs (Some log) none more up has new =
           (All-nil (Has all)));
     }
 
-row_new : (t : State) (before : ℕ) (place : LogPlace) (log : Source) → AreRising t → place.source ≡ before + 1 →
+row_new : (t : State) (before : ℕ) (place : LogPlace) (log : LogRow) → AreRising t → place.source ≡ before + 1 →
     source_at t.streams.sources place.source ≡ Some log → (before < log.number) × (log.number ≤ t.last_number)
 row_new t before place log rises next found =
-    let there = found_in (λ (l : Source). l.number == place.source) t.streams.sources log found in
+    let there = found_in (λ (l : LogRow). l.number == place.source) t.streams.sources log found in
     let number : log.number ≡ place.source = eqb-true log.number place.source there.passes in
     let drawn = (are_drawn t rises).sources log there.stands in
     (omega (arith, number, next), drawn.below)
@@ -535,7 +533,7 @@ offered_keeps all s e now client registration message request (Some log) asked f
 
 offer_keeps : (all : ℕ → List Frame) (s : State) (e : RunEnd) (now client registration : ℕ) (message : List ℕ)
     (o : Option LogRequest) → offering_of s client registration ≡ o → Keeps all e →
-    StepKeeps all s e (Offers now client registration message) (on_offered_by s e now client registration message o)
+    StepKeeps all s e (Offers now client registration message) (on_offered s e now client registration message o)
 unfolding on_log
 offer_keeps all s e now client registration message None asked keeps =
     nothing_put all s e e (Offers now client registration message) (OfferedAs Closed) (λ n. refl) keeps
@@ -545,10 +543,10 @@ offer_keeps all s e now client registration message (Some request) asked keeps =
 -- ---- any step
 
 step_keeps : (all : ℕ → List Frame) (s : State) (e : RunEnd) (step : Step) → Keeps all e →
-    StepKeeps all s e step (moved_seen s e step)
+    StepKeeps all s e step (moved_by s e step)
 step_keeps all s e (Packet now local from bytes) keeps =
     let step : Step = Packet now local from bytes in
-    nothing_put all s e (moved_seen s e step).after step (moved_seen s e step).answer (λ n. refl)
+    nothing_put all s e (moved_by s e step).after step (moved_by s e step).answer (λ n. refl)
     (packet_cases (λ what. Keeps all what.after) s e now local from (record {
       drops = λ cause. keeps;
       receives = λ source sent. leaving_keeps all e source (receive_move now sent) unheard (receive_leaves now sent) keeps;
@@ -563,21 +561,21 @@ step_keeps all s e (Offers now client registration message) keeps =
     offer_keeps all s e now client registration message (offering_of s client registration) refl keeps
 step_keeps all s e (Polls now client subscription source limit) keeps =
     let step : Step = Polls now client subscription source limit in
-    nothing_put all s e (moved_seen s e step).after step (moved_seen s e step).answer (λ n. refl)
+    nothing_put all s e (moved_by s e step).after step (moved_by s e step).answer (λ n. refl)
     (leaving_keeps all e source (poll_move s client subscription limit) IsGone (poll_leaves s client subscription limit) keeps)
 step_keeps all s e (Send now source) keeps =
     let step : Step = Send now source in
-    nothing_put all s e (moved_seen s e step).after step (moved_seen s e step).answer (λ n. refl)
+    nothing_put all s e (moved_by s e step).after step (moved_by s e step).answer (λ n. refl)
     (leaving_keeps all e source (send_move s now) IsGone (quiet_leaves (send_move s now) (send_quiet s now)) keeps)
 step_keeps all s e (Image now source) keeps =
     let step : Step = Image now source in
-    nothing_put all s e (moved_seen s e step).after step (moved_seen s e step).answer (λ n. refl)
+    nothing_put all s e (moved_by s e step).after step (moved_by s e step).answer (λ n. refl)
     (report_cases (λ what. Keeps all what.after) s e now source keeps
     (λ move quiet. leaving_keeps all e source move IsGone (quiet_leaves move quiet) keeps) (publisher_of s source))
 step_keeps all s e (Lists now client) keeps =
-    nothing_put all s e e (Lists now client) (moved_seen s e (Lists now client)).answer (λ n. refl) keeps
+    nothing_put all s e e (Lists now client) (moved_by s e (Lists now client)).answer (λ n. refl) keeps
 step_keeps all s e (Value now client number) keeps =
-    nothing_put all s e e (Value now client number) (moved_seen s e (Value now client number)).answer (λ n. refl) keeps
+    nothing_put all s e e (Value now client number) (moved_by s e (Value now client number)).answer (λ n. refl) keeps
 
 unanswered : (s : State) (e : RunEnd) (n : ℕ) (step : Step) → put_by s e n step NoMemory ≡ []
 unanswered s e n (Offers now client registration message) = refl
@@ -589,7 +587,7 @@ reading_keeps all e reading answer is keeps =
     let s : State = read_by e reading.older in
     step_either (λ told end. Keeps (with_put all s e reading.step told) end) e (moved_to e reading) answer is
     (nothing_put all s e e reading.step NoMemory (λ n. unanswered s e n reading.step) keeps)
-    (holds_by (StepKeeps all s e reading.step) e reading.older reading.step (step_keeps all s e reading.step keeps))
+    (step_keeps all s e reading.step keeps)
 
 -- ---- runs
 

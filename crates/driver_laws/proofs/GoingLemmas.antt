@@ -3,9 +3,9 @@ use Rattle.std.proofs.Common.{◌≡◌, ℕ, ◌==◌, ◌&&◌, ◌||◌, not,
 use Rattle.std.specs.List.{Contains, list_any}
 use Rattle.std.proofs.lemmas.Bool.{cases_Bool, eqb-true, not-false, not_from_false}
 use Rattle.std.proofs.lemmas.List.Elements.{All-contains, filter_passes}
-use Rattle.driver_core.specs.declared.event.Event.{Event}
-use Rattle.driver_core.specs.declared.event.Event.TheVariants.{Attach, Command, Reload, Setup, Tick}
-use Rattle.driver_core.specs.declared.event.Inputs.{Inputs}
+use Rattle.driver_core.specs.declared.state.event.Event.{Event}
+use Rattle.driver_core.specs.declared.state.event.Event.TheVariants.{Attach, Command, Reload, Setup, Tick}
+use Rattle.driver_core.specs.declared.state.event.Inputs.{Inputs}
 use Rattle.driver_core.specs.Closing.{close}
 use Rattle.driver_core.specs.Commands.{heard, at_request}
 use Rattle.driver_core.specs.Conduct.{coming_to, conduct, drafted, moment_told, state_after}
@@ -35,7 +35,7 @@ use Rattle.policy_core.specs.declared.verdict.Verdict.{Verdict}
 use Rattle.policy_core.specs.RuleList.{Rules}
 use Rattle.stream_registry.specs.declared.lingering.LogPlace.{LogPlace}
 use Rattle.stream_registry.specs.declared.row.Registration.{Registration}
-use Rattle.stream_registry.specs.declared.row.Source.{Source}
+use Rattle.stream_registry.specs.declared.row.LogRow.{LogRow}
 use Rattle.stream_registry.specs.Lingering.{closed, closing_of, is_closing, is_image_of, is_past, place_of, stays_live}
 use Rattle.stream_registry.specs.Origins.{lingering_since}
 use Rattle.stream_registry.specs.declared.pairs.Pair.{Pair}
@@ -125,7 +125,7 @@ module _ (inputs : Inputs) where
         let image = from_map place_of left'.streams.sources place has in
         record {
           log = image.of;
-          stood = subst (λ (logs : List Source). Contains logs image.of) same.logs image.stood;
+          stood = subst (λ (logs : List LogRow). Contains logs image.of) same.logs image.stood;
           place_is = image.is;
           closes = inr (inr by);
         };
@@ -133,7 +133,7 @@ module _ (inputs : Inputs) where
 
   -- ---- time goes on
 
-  past_by : (s : State) (now : ℕ) (log later : Source) → is_past (max s.moment now) later ≡ true →
+  past_by : (s : State) (now : ℕ) (log later : LogRow) → is_past (max s.moment now) later ≡ true →
       is_past (max s.moment now) later ≡ is_past (max s.moment now) log → IsPastBy s (Tick now) log
   past_by s now log later past same =
       let since = past_since log.measures.linger (max s.moment now) (lingering_since log) (sym same ∙ past) in
@@ -144,7 +144,7 @@ module _ (inputs : Inputs) where
   or_else false c is either = either
 
   -- a log that closes at the tick lingered for too long, or is silent
-  closing_by : (s : State) (now : ℕ) (log later : Source) →
+  closing_by : (s : State) (now : ℕ) (log later : LogRow) →
       is_past (max s.moment now) later ≡ is_past (max s.moment now) log → IsSameLog later log →
       is_closing (max s.moment now) inputs.silent later ≡ true → DraftCloses inputs s (Tick now) log
   closing_by s now log later past same closes =
@@ -187,7 +187,7 @@ module _ (inputs : Inputs) where
   unfolding closing_of at_moment
   ticked_told s between now leaves place has =
       let moment = max s.moment now in
-      let goes : Source → Bool = is_closing moment inputs.silent in
+      let goes : LogRow → Bool = is_closing moment inputs.silent in
       let image = from_map place_of (filter goes between.streams.sources) place has in
       let closes : is_closing moment inputs.silent image.of ≡ true = All-contains (λ log. goes log ≡ true) _ image.of
       (filter_passes goes between.streams.sources) image.stood in
@@ -388,22 +388,22 @@ unfolding conduct renewed dropping without_unread ruled
 counters_set_only s event inputs = (leaves_all inputs (coming_to s event) event).values
 
 -- an image is read or not, whether it lingers or not
-unread_as_log : (pairs : List Pair) (log : Source) → is_unread pairs (log_of log) ≡ is_unread pairs log
+unread_as_log : (pairs : List Pair) (log : LogRow) → is_unread pairs (log_of log) ≡ is_unread pairs log
 unread_as_log pairs log = ap (λ (b : Bool). not b && not (has_pair pairs log)) (origin_kind log.origin)
 
-pub unread_alike : (pairs : List Pair) (log other : Source) → IsSameLog log other →
+pub unread_alike : (pairs : List Pair) (log other : LogRow) → IsSameLog log other →
     is_unread pairs log ≡ is_unread pairs other
 unread_alike pairs log other same =
     sym (unread_as_log pairs log) ∙ ap (is_unread pairs) same ∙ unread_as_log pairs other
 
-any_closes : (s : State) (event : Event) (inputs : Inputs) (log : Source) → DraftCloses inputs s event log →
+any_closes : (s : State) (event : Event) (inputs : Inputs) (log : LogRow) → DraftCloses inputs s event log →
     Closes s event inputs log
 any_closes s event inputs log closes =
     ⊎_elim (λ past. inl past)
     (λ others. ⊎_elim (λ silent. inr (inl silent)) (λ ends. inr (inr (inl ends))) others)
     closes
 
-live_or_closes : (s : State) (event : Event) (inputs : Inputs) (log : Source) → Contains s.streams.sources log →
+live_or_closes : (s : State) (event : Event) (inputs : Inputs) (log : LogRow) → Contains s.streams.sources log →
     IsLive (without_unread (drafted s event inputs).after) log ⊎ Closes s event inputs log
 unfolding without_unread without_unread_in pairs_of
 live_or_closes s event inputs log has =
@@ -424,7 +424,7 @@ live_or_closes s event inputs log has =
     ((leaves_all inputs s event).logs log has)
 
 -- what is told of is the place of a log that the event's own rule closes, or that none reads any more
-told_closes : (s : State) (event : Event) (inputs : Inputs) (log : Source) → AreRising s → Contains s.streams.sources log →
+told_closes : (s : State) (event : Event) (inputs : Inputs) (log : LogRow) → AreRising s → Contains s.streams.sources log →
     (is_left (drafted s event inputs).closes log ≡ false) → Closes s event inputs log
 told_closes s event inputs log rises has told =
     let closes : List LogPlace = (drafted s event inputs).closes in
@@ -436,10 +436,10 @@ told_closes s event inputs log rises has told =
     let number : by.log.number ≡ log.number =
     sym (ap (λ (place : LogPlace). place.source) by.place_is) ∙ eqb-true found.one.source log.number found.passes in
     let same : by.log ≡ log =
-    rises_unique (λ (one : Source). one.number) 0 s.last_number s.streams.sources by.log log rises.sources by.stood has number in
+    rises_unique (λ (one : LogRow). one.number) 0 s.last_number s.streams.sources by.log log rises.sources by.stood has number in
     any_closes s event inputs log (subst (DraftCloses inputs s event) same by.closes)
 
-closes_by : (s : State) (event : Event) (inputs : Inputs) (log : Source) → AreRising s → Contains s.streams.sources log →
+closes_by : (s : State) (event : Event) (inputs : Inputs) (log : LogRow) → AreRising s → Contains s.streams.sources log →
     (not (is_left (drafted s event inputs).closes log) || is_unread (pairs_of (drafted s event inputs).after) log) ≡ true →
     Closes s event inputs log
 closes_by s event inputs log rises has closes =
@@ -458,7 +458,7 @@ told_by : (s : State) (event : Event) (inputs : Inputs) (place : LogPlace) → A
     Contains (drawn s event inputs).outcome.closes place → IsToldBy s event inputs place
 unfolding renewed dropping
 told_by s event inputs place rises has =
-    let goes : Source → Bool = is_closed (renewed s inputs (drafted s event inputs)) in
+    let goes : LogRow → Bool = is_closed (renewed s inputs (drafted s event inputs)) in
     let image = from_map place_of (filter goes s.streams.sources) place has in
     let stood : Contains s.streams.sources image.of = left_was_there goes s.streams.sources image.of image.stood in
     record {

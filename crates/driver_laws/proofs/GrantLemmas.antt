@@ -4,12 +4,12 @@ use Rattle.std.proofs.lemmas.Bool.{eq-eqb}
 use Rattle.std.proofs.lemmas.List.{append-nil}
 use Rattle.std.specs.List.{Contains, flat_map, list_any}
 use Rattle.driver_core.specs.Change.{Change}
-use Rattle.driver_core.specs.declared.event.Event.TheVariants.{Command}
-use Rattle.driver_core.specs.declared.event.Inputs.{Inputs}
-use Rattle.driver_core.specs.declared.refusal.Refusal.{Refusal}
-use Rattle.driver_core.specs.declared.refusal.Refusal.TheVariants.{Denied, Full}
-use Rattle.driver_core.specs.declared.replies.Message.{Message}
-use Rattle.driver_core.specs.declared.replies.Reply.TheVariants.{CounterReady, Error}
+use Rattle.driver_core.specs.declared.state.event.Event.TheVariants.{Command}
+use Rattle.driver_core.specs.declared.state.event.Inputs.{Inputs}
+use Rattle.driver_core.specs.declared.state.refusal.Refusal.{Refusal}
+use Rattle.driver_core.specs.declared.state.refusal.Refusal.TheVariants.{Denied, Full}
+use Rattle.driver_core.specs.declared.state.replies.Message.{Message}
+use Rattle.driver_core.specs.declared.state.replies.Reply.TheVariants.{CounterReady, Error}
 use Rattle.driver_core.specs.Commands.{heard, requested, asked, command, at_request}
 use Rattle.driver_core.specs.Conduct.{conduct, drafted}
 use Rattle.driver_core.specs.Counting.{add_counter, counted, with_counter, counter_decision, has_room_for_counter}
@@ -36,7 +36,7 @@ use Rattle.policy_core.specs.declared.verdict.Verdict.{Verdict}
 use Rattle.policy_core.specs.Question.{Question}
 use Rattle.stream_registry.specs.declared.lingering.LogPlace.{LogPlace}
 use Rattle.stream_registry.specs.declared.pairs.Pair.{Pair}
-use Rattle.stream_registry.specs.declared.row.Source.{Source}
+use Rattle.stream_registry.specs.declared.row.LogRow.{LogRow}
 use Rattle.stream_registry.specs.Lingering.{place_of}
 use Rattle.stream_registry.specs.Pairs.{pairs_of as pairs_on}
 use Rattle.stream_registry.specs.Streams.{cleared as all_closed}
@@ -286,7 +286,7 @@ none_left : (s : State) (now : ℕ) →
 unfolding without_unread without_unread_in
 none_left s now = refl
 
-each_closes : (s : State) (change : Change) (log : Source) → change.outcome.closes ≡ map place_of s.streams.sources →
+each_closes : (s : State) (change : Change) (log : LogRow) → change.outcome.closes ≡ map place_of s.streams.sources →
     Contains s.streams.sources log → is_closed change log ≡ true
 each_closes s change log closes has =
     let told : list_any (λ (closed : LogPlace). closed.source == log.number) (map place_of s.streams.sources) ≡ true =
@@ -303,7 +303,7 @@ still_terminated before s logs now handle correlation client change ends = recor
   after_is = ap without_unread ends.after_is ∙ none_left s now;
   told = ends.told;
   decided = ends.decided;
-  closes = ap (λ (sources : List Source). map place_of (filter (is_closed change) sources)) logs
+  closes = ap (λ (sources : List LogRow). map place_of (filter (is_closed change) sources)) logs
       ∙ ap (map place_of)
       (all_pass (is_closed change) s.streams.sources (λ log has. each_closes s change log ends.closes has));
 }

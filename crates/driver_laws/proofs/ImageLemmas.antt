@@ -3,8 +3,8 @@ use Rattle.std.proofs.Common.{◌≡◌, ℕ, Bool, true, List, [], ◌∷◌, O
 use Rattle.std.specs.List.{All, Contains, filter, flat_map}
 use Rattle.std.proofs.lemmas.Bool.{and_parts}
 use Rattle.std.proofs.lemmas.List.Elements.{All-append, All-contains, All-contains_itself, All-head, All-map, All-nil, All-tail, All-weaker, Contains-append_cases, Contains-append_left, Contains-append_right, Contains-push, filter_passes}
-use Rattle.driver_core.specs.declared.event.Event.{Event}
-use Rattle.driver_core.specs.declared.event.Inputs.{Inputs}
+use Rattle.driver_core.specs.declared.state.event.Event.{Event}
+use Rattle.driver_core.specs.declared.state.event.Inputs.{Inputs}
 use Rattle.driver_core.specs.Conduct.{coming_to, conduct, drafted, moment_told, state_after}
 use Rattle.driver_core.specs.Pairs.{lacking, pairs_of}
 use Rattle.driver_core.specs.Renewal.{come_to, gone_from, renewed}
@@ -16,7 +16,7 @@ use Rattle.client_registry.specs.Clients.{principal_at}
 use Rattle.policy_core.specs.RuleList.{Rules}
 use Rattle.policy_core.specs.Rules.{verdict_of}
 use Rattle.stream_registry.specs.declared.pairs.Pair.{Pair}
-use Rattle.stream_registry.specs.declared.row.Source.{Source}
+use Rattle.stream_registry.specs.declared.row.LogRow.{LogRow}
 use Rattle.stream_registry.specs.declared.row.Subscription.{Subscription}
 use Rattle.stream_registry.specs.Pairs.{fits, image_question, is_allowed, is_allowed_to, is_pair, pair_of, pairs_at, pairs_of as pairs_on}
 use Rattle.driver_core.proofs.ListLemmas.{contains_none, left_was_there, only_one, passes_are_left}
@@ -66,7 +66,7 @@ allowed_to policy epoch subscription None allows = absurd (cc)
 allowed_to policy epoch subscription (Some principal) allows =
     record { principal = principal; attached = refl; allows = allows }
 
-reads_of : (s : State) (log : Source) (subscription : Subscription) →
+reads_of : (s : State) (log : LogRow) (subscription : Subscription) →
     Contains s.streams.sources log → Contains s.streams.subscriptions subscription →
     is_pair s.clients.rows s.policy s.epoch log subscription ≡ true → IsReadBy s log subscription
 unfolding is_allowed
@@ -85,7 +85,7 @@ reads_of s log subscription live stands pairs =
       allowed = allowed.allows;
     }
 
-readers_of_log : (s : State) (log : Source) → Contains s.streams.sources log →
+readers_of_log : (s : State) (log : LogRow) → Contains s.streams.sources log →
     All (IsOfReader s) (pairs_at s.clients.rows s.policy s.epoch s.streams.subscriptions log)
 readers_of_log s log live =
     let test : Subscription → Bool = is_pair s.clients.rows s.policy s.epoch log in
@@ -116,12 +116,12 @@ has_reader s pair has =
 
 -- ---- and where these are, there is the pair
 
-is_pair_of : (s : State) (log : Source) (subscription : Subscription) → IsReadBy s log subscription →
+is_pair_of : (s : State) (log : LogRow) (subscription : Subscription) → IsReadBy s log subscription →
     is_pair s.clients.rows s.policy s.epoch log subscription ≡ true
 unfolding is_allowed
 is_pair_of s log subscription reads = rw (reads.fitting, reads.attached, reads.allowed) refl
 
-pub has_pair : (s : State) (log : Source) (subscription : Subscription) → IsReadBy s log subscription →
+pub has_pair : (s : State) (log : LogRow) (subscription : Subscription) → IsReadBy s log subscription →
     Contains (pairs_of s) (pair_of log subscription)
 unfolding pairs_of pairs_on
 has_pair s log subscription reads =

@@ -6,14 +6,14 @@ use Rattle.std.proofs.lemmas.Bool.{eqb-true, eq-eqb}
 use Rattle.std.proofs.lemmas.List.{append-nil}
 use Rattle.std.proofs.lemmas.List.Elements.{Contains-append_cases, Contains-append_left, Contains-append_right, Contains-push, filter-append}
 use Rattle.driver_core.specs.Directing.{directed, recalled}
-use Rattle.driver_core.specs.declared.event.End.{End}
-use Rattle.driver_core.specs.declared.event.Event.{Event}
-use Rattle.driver_core.specs.declared.event.Event.TheVariants.{Attach, Command, Reload, Setup, Tick}
-use Rattle.driver_core.specs.declared.event.Inputs.{Inputs}
-use Rattle.driver_core.specs.declared.outcome.Response.{Response}
-use Rattle.driver_core.specs.declared.refusal.Refusal.{Refusal}
-use Rattle.driver_core.specs.declared.replies.Message.{Message}
-use Rattle.driver_core.specs.declared.replies.Reply.{Reply}
+use Rattle.driver_core.specs.declared.state.event.End.{End}
+use Rattle.driver_core.specs.declared.state.event.Event.{Event}
+use Rattle.driver_core.specs.declared.state.event.Event.TheVariants.{Attach, Command, Reload, Setup, Tick}
+use Rattle.driver_core.specs.declared.state.event.Inputs.{Inputs}
+use Rattle.driver_core.specs.declared.state.outcome.Response.{Response}
+use Rattle.driver_core.specs.declared.state.refusal.Refusal.{Refusal}
+use Rattle.driver_core.specs.declared.state.replies.Message.{Message}
+use Rattle.driver_core.specs.declared.state.replies.Reply.{Reply}
 use Rattle.driver_core.specs.Attaching.{attached}
 use Rattle.driver_core.specs.Closing.{close, keep_alive}
 use Rattle.driver_core.specs.Conduct.{coming_to, conduct, drafted}
@@ -40,7 +40,7 @@ use Rattle.driver_laws.specs.ImageTellingLaws.{IsToldAvailable, IsToldUnavailabl
 use Rattle.client_registry.specs.declared.client.Client.{Client}
 use Rattle.policy_core.specs.declared.decision.Decision.{Decision}
 use Rattle.stream_registry.specs.declared.pairs.Pair.{Pair}
-use Rattle.stream_registry.specs.declared.row.Source.{Source}
+use Rattle.stream_registry.specs.declared.row.LogRow.{LogRow}
 use Rattle.stream_registry.specs.declared.row.Subscription.{Subscription}
 use Rattle.stream_registry.specs.declared.wanted.Adding.{Adding}
 use Rattle.stream_registry.specs.declared.wanted.Wanted.{Wanted}
@@ -211,13 +211,13 @@ all_pass {Y = Y} test parts (x ∷ xs) all =
     ∙ ap (λ (ys : List Y). ys ++ filter test (flat_map parts xs)) (all x)
     ∙ ap (λ (ys : List Y). parts x ++ ys) (all_pass test parts xs all)
 
-available_pass : (ends : List End) (pair : Pair) (log : Option Source) (subscription : Option Subscription) →
+available_pass : (ends : List End) (pair : Pair) (log : Option LogRow) (subscription : Option Subscription) →
     filter tells_available (available_to ends pair log subscription) ≡ available_to ends pair log subscription
 available_pass ends pair None subscription = refl
 available_pass ends pair (Some log) None = refl
 available_pass ends pair (Some log) (Some subscription) = refl
 
-available_fail : (ends : List End) (pair : Pair) (log : Option Source) (subscription : Option Subscription) →
+available_fail : (ends : List End) (pair : Pair) (log : Option LogRow) (subscription : Option Subscription) →
     NoneOf tells_unavailable (available_to ends pair log subscription)
 available_fail ends pair None subscription = refl
 available_fail ends pair (Some log) None = refl
@@ -326,7 +326,7 @@ reached ends source begin (Some end) is =
     })
 
 one_available : (after : State) (ends : List End) (pair : Pair) (pairs : List Pair) (messages : List Message)
-    (log : Option Source) (subscription : Option Subscription) →
+    (log : Option LogRow) (subscription : Option Subscription) →
     source_at after.streams.sources pair.source ≡ log →
     subscription_at after.streams.subscriptions pair.subscription ≡ subscription → (log ≡ None → ⊥) →
     (subscription ≡ None → ⊥) → OneForEach (IsToldAvailable after ends) pairs messages →
@@ -334,7 +334,7 @@ one_available : (after : State) (ends : List End) (pair : Pair) (pairs : List Pa
 one_available after ends pair pairs messages None subscription found found' some some' rest = absurd (some refl)
 one_available after ends pair pairs messages (Some log) None found found' some some' rest = absurd (some' refl)
 one_available after ends pair pairs messages (Some log) (Some subscription) found found' some some' rest =
-    let live = found_in (λ (log : Source). log.number == pair.source) after.streams.sources log
+    let live = found_in (λ (log : LogRow). log.number == pair.source) after.streams.sources log
     found in
     let stands = found_in (λ (row : Subscription). row.number == pair.subscription) after.streams.subscriptions
     subscription found' in
@@ -359,7 +359,7 @@ log_found : (after : State) (pair : Pair) → IsOfReader after pair →
     source_at after.streams.sources pair.source ≡ None → ⊥
 log_found after pair reader =
     let same : reader.log.number ≡ pair.source = ap (λ (p : Pair). p.source) (sym reader.pair_is) in
-    always_found (λ (log : Source). log.number == pair.source) after.streams.sources
+    always_found (λ (log : LogRow). log.number == pair.source) after.streams.sources
     reader.log reader.reads.is_live (eq-eqb reader.log.number pair.source same)
 
 subscription_found : (after : State) (pair : Pair) → IsOfReader after pair →

@@ -5,11 +5,11 @@ use Rattle.std.proofs.lemmas.Bool.{and_parts, cases_Bool, eqb-true, not_from_fal
 use Rattle.std.proofs.lemmas.List.Elements.{Contains-append_left, Contains-push_cases}
 use Rattle.std.proofs.lemmas.List.Folds.{list_any-append}
 use Rattle.driver_core.specs.Directing.{directed, recalled, with_destination, without_destination}
-use Rattle.driver_core.specs.declared.event.Event.{Event}
-use Rattle.driver_core.specs.declared.event.Event.TheVariants.{Command}
-use Rattle.driver_core.specs.declared.event.Inputs.{Inputs}
-use Rattle.driver_core.specs.declared.outcome.Response.{Response}
-use Rattle.driver_core.specs.declared.refusal.Refusal.{Refusal}
+use Rattle.driver_core.specs.declared.state.event.Event.{Event}
+use Rattle.driver_core.specs.declared.state.event.Event.TheVariants.{Command}
+use Rattle.driver_core.specs.declared.state.event.Inputs.{Inputs}
+use Rattle.driver_core.specs.declared.state.outcome.Response.{Response}
+use Rattle.driver_core.specs.declared.state.refusal.Refusal.{Refusal}
 use Rattle.driver_core.specs.Attaching.{attached}
 use Rattle.driver_core.specs.Closing.{keep_alive}
 use Rattle.driver_core.specs.Commands.{heard, at_request}
@@ -42,7 +42,7 @@ use Rattle.counters.specs.Counters.{is_another, is_own, made, set, set_one, with
 use Rattle.policy_core.specs.declared.decision.Decision.{Decision}
 use Rattle.policy_core.specs.RuleList.{Rules}
 use Rattle.stream_registry.specs.declared.lingering.LogPlace.{LogPlace}
-use Rattle.stream_registry.specs.declared.row.Source.{Source}
+use Rattle.stream_registry.specs.declared.row.LogRow.{LogRow}
 use Rattle.stream_registry.specs.declared.row.Registration.{Registration}
 use Rattle.stream_registry.specs.declared.wanted.Adding.{Adding}
 use Rattle.stream_registry.specs.declared.wanted.Adding.TheVariants.{Join, Make}
@@ -94,11 +94,11 @@ pub origin_kind : (origin : Origin) → is_published_by (unlingering origin) ≡
 origin_kind (Published exclusive since) = refl
 origin_kind (Remote address initial_term join) = refl
 
-image_as_log : (numbers : List ℕ) (log : Source) → is_image_of numbers (log_of log) ≡ is_image_of numbers log
+image_as_log : (numbers : List ℕ) (log : LogRow) → is_image_of numbers (log_of log) ≡ is_image_of numbers log
 image_as_log numbers log =
     ap (λ (b : Bool). not b && list_any (is_number log.number) numbers) (origin_kind log.origin)
 
-pub image_alike : (numbers : List ℕ) (log other : Source) → IsSameLog log other →
+pub image_alike : (numbers : List ℕ) (log other : LogRow) → IsSameLog log other →
     is_image_of numbers log ≡ is_image_of numbers other
 image_alike numbers log other same =
     sym (image_as_log numbers log) ∙ ap (is_image_of numbers) same ∙ image_as_log numbers other
@@ -126,17 +126,17 @@ same_values s event after same = λ counter has. inl (rw same at has)
 
 module _ (inputs : Inputs) where
   -- the event's own rule closes the log
-  abbrev pub DraftCloses : State → Event → Source → Type 0
+  abbrev pub DraftCloses : State → Event → LogRow → Type 0
   DraftCloses s event log = IsPastBy s event log ⊎ (IsSilentBy event inputs log ⊎ IsTerminatedBy s event)
 
   abbrev pub LogsStay : State → Event → State → Type 0
   LogsStay s event after =
-      (log : Source) → Contains s.streams.sources log →
+      (log : LogRow) → Contains s.streams.sources log →
       IsLive after log ⊎ DraftCloses s event log
 
   -- what is told is the place of such a log
   pub record IsToldIn (s : State) (event : Event) (place : LogPlace) : Type 0 where
-    pub log : Source
+    pub log : LogRow
     pub stood : Contains s.streams.sources log
     pub place_is : place ≡ place_of log
     pub closes : DraftCloses s event log
@@ -287,7 +287,7 @@ module _ (inputs : Inputs) where
   added_registration t number client wanted place (Make session) registration has =
       Contains-append_left t.registrations _ registration has
 
-  added_log : (t : Streams) (number client : ℕ) (wanted : Wanted) (place : ℕ) (adding : Adding) (log : Source) →
+  added_log : (t : Streams) (number client : ℕ) (wanted : Wanted) (place : ℕ) (adding : Adding) (log : LogRow) →
       Contains t.sources log → Contains (added t number client wanted place adding).sources log
   added_log t number client wanted place (Join source session) log has = has
   added_log t number client wanted place (Make session) log has = Contains-append_left t.sources _ log has

@@ -7,14 +7,13 @@ use Rattle.driver_core.proofs.ListLemmas.{contains_none}
 use Rattle.driver_laws.specs.LearningLaws.{AddressesComeAndGoBy, AddressesComeAndGoOnlySo, IsLetIn, IsPast, IsStatusFrom, IsTurnedAway, has_learnt}
 use Rattle.driver_laws.specs.StepActs.{join_verdict}
 use Rattle.driver_laws.proofs.LearntRowLemmas.{gone_by, kept_was, learnt_at, missing, new_by, same_address, stays_by}
-use Rattle.driver_steps.specs.declared.answer.Answer.TheVariants.{Idle}
+use Rattle.log_steps.specs.declared.answer.Answer.TheVariants.{Idle}
 use Rattle.driver_steps.specs.declared.step.Step.{Step}
 use Rattle.driver_steps.specs.declared.step.Step.TheVariants.{Packet, Send}
-use Rattle.driver_steps.specs.Ends.{RunEnd, log_at}
+use Rattle.driver_steps.specs.Ends.{log_at, moved_by, RunEnd}
 use Rattle.driver_steps.specs.JoinLaws.{ChangesBy, ChangesByPacket, ChangesByStatus}
-use Rattle.driver_steps.specs.Moves.{WholeLog}
+use Rattle.log_steps.specs.Moves.{WholeLog}
 use Rattle.driver_steps.specs.Runs.{Reading}
-use Rattle.driver_steps.specs.Seen.{moved_seen}
 use Rattle.driver_steps.proofs.FoundLemmas.{found_source}
 use Rattle.driver_steps.proofs.LearntLemmas.{learnt_stays}
 use Rattle.frame_codec.specs.declared.fault.BadPacket.{BadPacket}
@@ -135,7 +134,7 @@ abbrev seen_by : State → Step → Reading
 seen_by s step = record { older = Some s; step = step }
 
 comes_at : (s : State) (e : RunEnd) (step : Step) (source : ℕ) (new : WholeLog) (row : LearntAddress) (was : Option WholeLog) →
-    log_at e.logs source ≡ was → log_at (moved_seen s e step).after.logs source ≡ Some new → Contains new.recovery.learnt row →
+    log_at e.logs source ≡ was → log_at (moved_by s e step).after.logs source ≡ Some new → Contains new.recovery.learnt row →
     has_learnt was row.address ≡ false → IsLetIn s step source row
 comes_at s e step source new row None none now_is there lacks =
     absurd
@@ -150,14 +149,14 @@ one_of_three (inl a) = inl a
 one_of_three (inr b) = inr (inl b)
 
 goes_at : (s : State) (e : RunEnd) (step : Step) (source : ℕ) (log : WholeLog) (row : LearntAddress) (left : Option WholeLog) →
-    log_at (moved_seen s e step).after.logs source ≡ left → log_at e.logs source ≡ Some log → Contains log.recovery.learnt row →
+    log_at (moved_by s e step).after.logs source ≡ left → log_at e.logs source ≡ Some log → Contains log.recovery.learnt row →
     has_learnt left row.address ≡ false →
-    IsTurnedAway s step source row.address ⊎ (IsPast s step source row ⊎ (log_at (moved_seen s e step).after.logs source ≡ None))
+    IsTurnedAway s step source row.address ⊎ (IsPast s step source row ⊎ (log_at (moved_by s e step).after.logs source ≡ None))
 goes_at s e step source log row None none found there lacks = inr (inr none)
 goes_at s e step source log row (Some new) now_is found there lacks =
     subst
     (λ (n : ℕ).
-    IsTurnedAway s step n row.address ⊎ (IsPast s step n row ⊎ (log_at (moved_seen s e step).after.logs source ≡ None)))
+    IsTurnedAway s step n row.address ⊎ (IsPast s step n row ⊎ (log_at (moved_by s e step).after.logs source ≡ None)))
     (found_source source log e.logs found)
     (one_of_three (goes_by s step log new row ((learnt_stays e).stays (seen_by s step) Idle source log new found now_is) there lacks))
 
@@ -166,7 +165,7 @@ come_and_go s e = record {
   comes = λ step source new row now_is there lacks.
       comes_at s e step source new row (log_at e.logs source) refl now_is there lacks;
   goes = λ step source log row found there lacks.
-      goes_at s e step source log row (log_at (moved_seen s e step).after.logs source) refl found there lacks;
+      goes_at s e step source log row (log_at (moved_by s e step).after.logs source) refl found there lacks;
 }
 
 pub addresses_come_and_go : AddressesComeAndGoOnlySo

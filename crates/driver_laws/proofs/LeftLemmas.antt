@@ -13,7 +13,7 @@ use Rattle.counters.specs.declared.counter.Counter.{Counter}
 use Rattle.counters.specs.Counters.{is_of_another, without_those_of}
 use Rattle.stream_registry.specs.declared.row.Origin.{Origin}
 use Rattle.stream_registry.specs.declared.row.Origin.TheVariants.{Published, Remote}
-use Rattle.stream_registry.specs.declared.row.Source.{Source}
+use Rattle.stream_registry.specs.declared.row.LogRow.{LogRow}
 use Rattle.stream_registry.specs.declared.row.Registration.{Registration}
 use Rattle.stream_registry.specs.Leaving.{left as left_in}
 use Rattle.stream_registry.specs.Lingering.{is_past, is_past_since, is_used, left_alone, place_of, settled, settled_one}
@@ -58,10 +58,10 @@ owned_or_stays owner client xs x has =
 -- ---- a log that lingers
 
 -- the log is as it was, or lingers, since that moment where it did not before
-abbrev pub Settles : ℕ → Source → Source → Type 0
+abbrev pub Settles : ℕ → LogRow → LogRow → Type 0
 Settles now before after = (after ≡ before) ⊎ (after ≡ left_alone now before)
 
-settled_either : (b : Bool) (now : ℕ) (log : Source) → Settles now log (if b then log else left_alone now log)
+settled_either : (b : Bool) (now : ℕ) (log : LogRow) → Settles now log (if b then log else left_alone now log)
 settled_either true now log = inl refl
 settled_either false now log = inr refl
 
@@ -69,10 +69,10 @@ left_twice : (now : ℕ) (origin : Origin) → left_by now (left_by now origin) 
 left_twice now (Published exclusive since) = refl
 left_twice now (Remote address initial_term join) = refl
 
-alone_twice : (now : ℕ) (log : Source) → left_alone now (left_alone now log) ≡ left_alone now log
+alone_twice : (now : ℕ) (log : LogRow) → left_alone now (left_alone now log) ≡ left_alone now log
 alone_twice now log = ap (λ (origin : Origin). record log { origin = origin }) (left_twice now log.origin)
 
-settles_twice : (now : ℕ) (first next last : Source) → Settles now first next → Settles now next last →
+settles_twice : (now : ℕ) (first next last : LogRow) → Settles now first next → Settles now next last →
     Settles now first last
 settles_twice now first next last one two =
     ⊎_elim
@@ -96,11 +96,11 @@ pub record Left (now : ℕ) (s after : State) (Goes : ℕ → Type 0) : Type 0 w
       (counter : Counter) → Contains s.counters counter → Contains after.counters counter ⊎ Goes counter.client
   pub values : (counter : Counter) → Contains after.counters counter → Contains s.counters counter
   pub logs :
-      (log : Source) → Contains s.streams.sources log →
-      (later : Source) × Contains after.streams.sources later × Settles now log later
+      (log : LogRow) → Contains s.streams.sources log →
+      (later : LogRow) × Contains after.streams.sources later × Settles now log later
   pub were :
-      (log : Source) → Contains after.streams.sources log →
-      (before : Source) × Contains s.streams.sources before × Settles now before log
+      (log : LogRow) → Contains after.streams.sources log →
+      (before : LogRow) × Contains s.streams.sources before × Settles now before log
   pub moment : after.moment ≡ now
 
 there_or_gone : (s : State) (gone client : ℕ) → is_there s client ≡ true →
@@ -111,18 +111,18 @@ there_or_gone s gone client there =
     (λ other. inl (rw (there_left s gone client, not_from_false (client == gone) other, there) refl))
     (cases_Bool (client == gone))
 
-pub settled_logs : (registrations : List Registration) (now : ℕ) (logs : List Source) (log : Source) →
+pub settled_logs : (registrations : List Registration) (now : ℕ) (logs : List LogRow) (log : LogRow) →
     Contains logs log →
-    (later : Source) × Contains (map (settled_one registrations now) logs) later × Settles now log later
+    (later : LogRow) × Contains (map (settled_one registrations now) logs) later × Settles now log later
 settled_logs registrations now logs log has = (
   settled_one registrations now log,
   mapped (settled_one registrations now) logs log has,
   settled_either (is_used registrations log.number) now log,
 )
 
-pub settled_were : (registrations : List Registration) (now : ℕ) (logs : List Source) (log : Source) →
+pub settled_were : (registrations : List Registration) (now : ℕ) (logs : List LogRow) (log : LogRow) →
     Contains (map (settled_one registrations now) logs) log →
-    (before : Source) × Contains logs before × Settles now before log
+    (before : LogRow) × Contains logs before × Settles now before log
 settled_were registrations now logs log has =
     let image = from_map (settled_one registrations now) logs log has in (
       image.of,
@@ -209,7 +209,7 @@ left_since : (linger now : ℕ) (origin : Origin) →
 left_since linger now (Published exclusive since) = alone_since linger now since
 left_since linger now (Remote address initial_term join) = refl
 
-pub past_settles : (now : ℕ) (before after : Source) → Settles now before after →
+pub past_settles : (now : ℕ) (before after : LogRow) → Settles now before after →
     is_past now after ≡ is_past now before
 past_settles now before after settles =
     ⊎_elim
@@ -217,17 +217,17 @@ past_settles now before after settles =
     (λ alone. ap (is_past now) alone ∙ left_since before.measures.linger now before.origin)
     settles
 
-pub place_settles : (now : ℕ) (before after : Source) → Settles now before after → place_of after ≡ place_of before
+pub place_settles : (now : ℕ) (before after : LogRow) → Settles now before after → place_of after ≡ place_of before
 place_settles now before after settles = ⊎_elim (λ same. ap place_of same) (λ alone. ap place_of alone) settles
 
 left_origin : (now : ℕ) (origin : Origin) → unlingering (left_by now origin) ≡ unlingering origin
 left_origin now (Published exclusive since) = refl
 left_origin now (Remote address initial_term join) = refl
 
-pub same_but_alone : (now : ℕ) (log : Source) → IsSameLog (left_alone now log) log
+pub same_but_alone : (now : ℕ) (log : LogRow) → IsSameLog (left_alone now log) log
 same_but_alone now log = ap (λ (origin : Origin). record log { origin = origin }) (left_origin now log.origin)
 
-pub same_but_since : (now : ℕ) (before after : Source) → Settles now before after → IsSameLog after before
+pub same_but_since : (now : ℕ) (before after : LogRow) → Settles now before after → IsSameLog after before
 same_but_since now before after settles =
     ⊎_elim (λ same. ap log_of same) (λ alone. ap log_of alone ∙ same_but_alone now before) settles
 

@@ -1,8 +1,8 @@
 -- A client is shown exactly the counters that the policy in force shows it.
 use Rattle.std.proofs.Common.{◌≡◌, ℕ, Bool, List, [], ◌∷◌, Some, None, refl, sym, ◌∙◌}
 use Rattle.std.specs.List.{filter}
-use Rattle.driver_core.specs.declared.listing.Listed.TheVariants as listed_as
-use Rattle.driver_core.specs.declared.listing.Shown.TheVariants as shown_as
+use Rattle.driver_core.specs.declared.asked.listing.Listed.TheVariants as listed_as
+use Rattle.driver_core.specs.declared.asked.listing.Shown.TheVariants as shown_as
 use Rattle.driver_core.specs.LeftOut.{left_out as left_out_of}
 use Rattle.driver_core.specs.Listing.{list, value}
 use Rattle.driver_core.specs.Renewal.{source_at}
@@ -13,7 +13,7 @@ use Rattle.client_registry.specs.declared.client.Client.{Client}
 use Rattle.client_registry.specs.Clients.{client_at}
 use Rattle.counters.specs.declared.counter.Counter.{Counter}
 use Rattle.counters.specs.Counters.{counter_at, is_visible, visible_of}
-use Rattle.stream_registry.specs.declared.row.Source.{Source}
+use Rattle.stream_registry.specs.declared.row.LogRow.{LogRow}
 use Rattle.counters.proofs.VisibleLemmas.{any_number}
 use Rattle.driver_core.proofs.VerdictLemmas.{by_policy}
 use Rattle.driver_laws.proofs.DenialTextLemmas.{epoch_of, denial_words, denial_is_named}
@@ -53,7 +53,7 @@ shows_exactly s handle client number counter found there =
           ∙ denial_is_named (verdict_on s question) s.epoch denies (epoch_of s question);
     }
 
-shows_source_exactly : (s : State) (handle : ℕ) (client : Client) (number : ℕ) (source : Source) →
+shows_source_exactly : (s : State) (handle : ℕ) (client : Client) (number : ℕ) (source : LogRow) →
     client_at s.clients.rows handle ≡ Some client → counter_at s.counters number ≡ None →
     source_at s.streams.sources number ≡ Some source → ShowsSourceExactly s client source (value s handle number)
 unfolding value

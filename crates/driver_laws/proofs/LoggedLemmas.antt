@@ -5,11 +5,11 @@ use Rattle.std.specs.List.{Contains}
 use Rattle.std.proofs.lemmas.Bool.{and_parts, eq-eqb}
 use Rattle.std.proofs.lemmas.List.Elements.{Contains-append_left, Contains-append_right, Contains-push, Contains-push_cases}
 use Rattle.driver_core.specs.Directing.{directed, recalled, with_destination, without_destination}
-use Rattle.driver_core.specs.declared.event.Event.{Event}
-use Rattle.driver_core.specs.declared.event.Event.TheVariants.{Attach, Command, Reload, Setup, Tick}
-use Rattle.driver_core.specs.declared.event.Inputs.{Inputs}
-use Rattle.driver_core.specs.declared.peer.Peer.{Peer}
-use Rattle.driver_core.specs.declared.settings.Settings.{Settings}
+use Rattle.driver_core.specs.declared.state.event.Event.{Event}
+use Rattle.driver_core.specs.declared.state.event.Event.TheVariants.{Attach, Command, Reload, Setup, Tick}
+use Rattle.driver_core.specs.declared.state.event.Inputs.{Inputs}
+use Rattle.driver_core.specs.declared.state.peer.Peer.{Peer}
+use Rattle.driver_core.specs.declared.state.settings.Settings.{Settings}
 use Rattle.driver_core.specs.Attaching.{attached}
 use Rattle.driver_core.specs.Closing.{close, keep_alive}
 use Rattle.driver_core.specs.Commands.{heard}
@@ -34,7 +34,7 @@ use Rattle.policy_core.specs.RuleList.{Rules}
 use Rattle.channel_uri.specs.Channel.{Shape}
 use Rattle.stream_registry.specs.declared.fault.StreamFault.{StreamFault}
 use Rattle.stream_registry.specs.declared.fault.StreamFault.TheVariants.{Conflict, Full}
-use Rattle.stream_registry.specs.declared.row.Source.{Source}
+use Rattle.stream_registry.specs.declared.row.LogRow.{LogRow}
 use Rattle.stream_registry.specs.declared.row.Registration.{Registration}
 use Rattle.stream_registry.specs.declared.wanted.Adding.{Adding}
 use Rattle.stream_registry.specs.declared.wanted.Adding.TheVariants.{Join, Make}
@@ -59,11 +59,11 @@ use Rattle.driver_laws.proofs.EveryLemmas.{after_any}
 -- ---- logs that stay
 
 -- a log with which somebody is registered is as it was
-used_settles : (b : Bool) (now : ℕ) (log : Source) → b ≡ true → cond b log (left_alone now log) ≡ log
+used_settles : (b : Bool) (now : ℕ) (log : LogRow) → b ≡ true → cond b log (left_alone now log) ≡ log
 used_settles true now log used = refl
 used_settles false now log used = absurd (cc used)
 
-settled_log : (registrations : List Registration) (now : ℕ) (logs : List Source) (registration : Registration) →
+settled_log : (registrations : List Registration) (now : ℕ) (logs : List LogRow) (registration : Registration) →
     Contains registrations registration → HasLog logs registration.source →
     HasLog (map (settled_one registrations now) logs) registration.source
 settled_log registrations now logs registration has was =
@@ -96,7 +96,7 @@ left_logged streams client now logged = λ registration has.
     (logged registration
     (left_was_there (is_registration_of_another client) streams.registrations registration has))
 
-not_past : (now : ℕ) (silent : List ℕ) (log : Source) → is_published log ≡ true → lingering_since log ≡ None →
+not_past : (now : ℕ) (silent : List ℕ) (log : LogRow) → is_published log ≡ true → lingering_since log ≡ None →
     stays_live now silent log ≡ true
 not_past now silent log published in_use = rw (in_use, published) refl
 
@@ -140,7 +140,7 @@ never_lingers : (since : Option ℕ) → is_none since ≡ true → since ≡ No
 never_lingers None is = refl
 never_lingers (Some since) is = absurd (cc is)
 
-open_published : (channel : Shape) (stream : ℤ) (log : Source) → is_joinable channel stream log ≡ true →
+open_published : (channel : Shape) (stream : ℤ) (log : LogRow) → is_joinable channel stream log ≡ true →
     is_published log ≡ true
 unfolding is_joinable
 open_published channel stream log joinable =
@@ -149,7 +149,7 @@ open_published channel stream log joinable =
     let shared = and_parts _ _ (and_parts _ _ open'.0).0 in
     (and_parts _ _ shared.0).0
 
-open_in_use : (channel : Shape) (stream : ℤ) (log : Source) → is_joinable channel stream log ≡ true →
+open_in_use : (channel : Shape) (stream : ℤ) (log : LogRow) → is_joinable channel stream log ≡ true →
     lingering_since log ≡ None
 unfolding is_joinable
 open_in_use channel stream log joinable =
@@ -158,11 +158,11 @@ open_in_use channel stream log joinable =
     never_lingers (lingering_since log) (and_parts _ _ open'.0).1
 
 -- what is granted is a new log, or this one
-abbrev IsGranted : List Source → Adding → Type 0
+abbrev IsGranted : List LogRow → Adding → Type 0
 IsGranted logs (Join source session) = HasLog logs source
 IsGranted logs (Make session) = Unit {0}
 
-made_granted : (logs : List Source) (conflicts room : Bool) (session : ℤ) (adding : Adding) →
+made_granted : (logs : List LogRow) (conflicts room : Bool) (session : ℤ) (adding : Adding) →
     cond {A = Result Adding StreamFault} conflicts (Err Conflict) (cond room (Ok (Make session)) (Err Full)) ≡ Ok adding →
     IsGranted logs adding
 made_granted logs true room session adding is = absurd (cc is)
@@ -171,7 +171,7 @@ made_granted logs false true session adding is =
     let same : Make session ≡ adding = cc is in
     subst (IsGranted logs) same tt
 
-joined_granted : (logs : List Source) (conflicts room : Bool) (log : Source) (adding : Adding) →
+joined_granted : (logs : List LogRow) (conflicts room : Bool) (log : LogRow) (adding : Adding) →
     HasLog logs log.number →
     cond {A = Result Adding StreamFault} conflicts (Err Conflict)
     (cond room (Ok (Join log.number log.session)) (Err Full)) ≡ Ok adding →
@@ -190,7 +190,7 @@ making_granted streams wanted adding is =
     (is_stated_again streams.sources wanted.channel.media wanted.stream (stated_session_of wanted.channel))
     (has_room_for_registration streams && has_room_for_log streams) _ adding is
 
-by_granted : (streams : Streams) (wanted : Wanted) (adding : Adding) (found : Option Source) →
+by_granted : (streams : Streams) (wanted : Wanted) (adding : Adding) (found : Option LogRow) →
     joined_at streams.sources wanted.channel wanted.stream ≡ found → adding_by streams wanted found ≡ Ok adding →
     IsGranted streams.sources adding
 unfolding joining_of
@@ -207,7 +207,7 @@ by_granted streams wanted adding (Some log) found is =
       in_use = open_in_use wanted.channel wanted.stream log it.passes;
     }) is
 
-either_granted : (logs : List Source) (adding : Adding) (b : Bool) (one other : Result Adding StreamFault) →
+either_granted : (logs : List LogRow) (adding : Adding) (b : Bool) (one other : Result Adding StreamFault) →
     (one ≡ Ok adding → IsGranted logs adding) → (other ≡ Ok adding → IsGranted logs adding) →
     cond b one other ≡ Ok adding → IsGranted logs adding
 either_granted logs adding true one other first second is = first is
@@ -222,7 +222,7 @@ granted streams wanted adding is =
     (making_granted streams wanted adding)
     (by_granted streams wanted adding (joined_at streams.sources wanted.channel wanted.stream) refl) is
 
-has_more : (logs : List Source) (log : Source) (source : ℕ) → HasLog logs source →
+has_more : (logs : List LogRow) (log : LogRow) (source : ℕ) → HasLog logs source →
     HasLog (logs ++ log ∷ []) source
 has_more logs log source was = record {
   log = was.log;
@@ -240,8 +240,8 @@ added_logged streams number client wanted place (Join source session) has logged
     (λ is. subst (λ (r : Registration). HasLog streams.sources r.source) is has)
     (Contains-push_cases streams.registrations (registration_of number client wanted source) registration stands)
 added_logged streams number client wanted place (Make session) has logged = λ registration stands.
-    let log : Source = log_of streams number wanted place session in
-    let logs : List Source = streams.sources ++ log ∷ [] in
+    let log : LogRow = log_of streams number wanted place session in
+    let logs : List LogRow = streams.sources ++ log ∷ [] in
     ⊎_elim (λ before. has_more streams.sources log registration.source (logged registration before))
     (λ is.
     subst (λ (r : Registration). HasLog logs r.source) is
@@ -296,7 +296,7 @@ image_logged s wanted place logged = λ registration has.
     has_more s.streams.sources _ registration.source (logged registration has)
 
 -- a publication stays, read or not
-published_kept : (pairs : List Pair) (log : Source) → is_published log ≡ true → is_kept pairs log ≡ true
+published_kept : (pairs : List Pair) (log : LogRow) → is_published log ≡ true → is_kept pairs log ≡ true
 published_kept pairs log published = rw published refl
 
 unread_logged : (s : State) → HaveTheirLogs s.streams → HaveTheirLogs (without_unread s).streams

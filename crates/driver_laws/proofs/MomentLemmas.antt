@@ -4,10 +4,10 @@ use Rattle.std.specs.List.{Contains, list_any}
 use Rattle.std.proofs.Math.Nat.{le-max_left}
 use Rattle.std.proofs.lemmas.Bool.{and_parts, cases_Bool, eq-eqb, eqb-true, not-true}
 use Rattle.driver_core.specs.Change.{Change}
-use Rattle.driver_core.specs.declared.event.Event.{Event}
-use Rattle.driver_core.specs.declared.event.Event.TheVariants.{Tick}
-use Rattle.driver_core.specs.declared.event.Inputs.{Inputs}
-use Rattle.driver_core.specs.declared.outcome.Response.TheVariants.{Nothing}
+use Rattle.driver_core.specs.declared.state.event.Event.{Event}
+use Rattle.driver_core.specs.declared.state.event.Event.TheVariants.{Tick}
+use Rattle.driver_core.specs.declared.state.event.Inputs.{Inputs}
+use Rattle.driver_core.specs.declared.state.outcome.Response.TheVariants.{Nothing}
 use Rattle.driver_core.specs.Conduct.{coming_to, conduct, drafted, moment_told, outcome_of, state_after}
 use Rattle.driver_core.specs.Looking.{IsAtItsMoment}
 use Rattle.driver_core.specs.Pairs.{is_lacked_by, is_same_pair, lacking, pairs_of, prospects_of}
@@ -24,7 +24,7 @@ use Rattle.driver_laws.specs.Turning.{TurnsTo}
 use Rattle.client_registry.specs.Clients.{principal_at}
 use Rattle.policy_core.proofs.Bounds.{steady, steady_coming}
 use Rattle.stream_registry.specs.declared.pairs.Pair.{Pair}
-use Rattle.stream_registry.specs.declared.row.Source.{Source}
+use Rattle.stream_registry.specs.declared.row.LogRow.{LogRow}
 use Rattle.stream_registry.specs.declared.row.Subscription.{Subscription}
 use Rattle.stream_registry.specs.Pairs.{image_question, pair_of}
 use Rattle.driver_core.proofs.ListLemmas.{left_was_there, passes_are_left}
@@ -62,11 +62,11 @@ same_itself pair = rw (eq-eqb pair.source pair.source refl, eq-eqb pair.subscrip
 
 -- what stands in the one registry stands in the other
 record StandsIn (from to : State) : Type 0 where
-  logs : (log : Source) → Contains from.streams.sources log → Contains to.streams.sources log
+  logs : (log : LogRow) → Contains from.streams.sources log → Contains to.streams.sources log
   rows : (row : Subscription) → Contains from.streams.subscriptions row → Contains to.streams.subscriptions row
 
 -- a pair that the other lacks is one that its policy refuses
-lacked_is_refused : (from to : State) (log : Source) (subscription : Subscription) → StandsIn from to →
+lacked_is_refused : (from to : State) (log : LogRow) (subscription : Subscription) → StandsIn from to →
     IsReadBy from log subscription → is_lacked_by (pairs_of to) (pair_of log subscription) ≡ true →
     RefusesImage to subscription
 lacked_is_refused from to log subscription stand reads lacks principal attached =
@@ -92,7 +92,7 @@ lacked_is_refused from to log subscription stand reads lacks principal attached 
     (cases_Bool (verdict_on to (image_question principal subscription)).allow)
 
 -- and no pair of a subscription that its policy refuses is there
-refused_is_lacked : (from to : State) (log : Source) (subscription : Subscription) → AreRising to → StandsIn from to →
+refused_is_lacked : (from to : State) (log : LogRow) (subscription : Subscription) → AreRising to → StandsIn from to →
     IsReadBy from log subscription → RefusesImage to subscription →
     list_any (is_same_pair (pair_of log subscription)) (pairs_of to) ≡ true → ⊥
 refused_is_lacked from to log subscription rises stand reads refused any =

@@ -5,11 +5,11 @@ use Rattle.std.proofs.lemmas.Bool.{cases_Bool, eq-eqb}
 use Rattle.std.proofs.lemmas.List.{length-append}
 use Rattle.std.proofs.lemmas.List.Elements.{Contains-append_left, Contains-push, Contains-push_cases}
 use Rattle.std.proofs.lemmas.List.Filters.{length-filter_both}
-use Rattle.driver_core.specs.declared.event.Event.{Event}
-use Rattle.driver_core.specs.declared.event.Event.TheVariants.{Attach, Command, Reload, Setup, Tick}
-use Rattle.driver_core.specs.declared.event.Inputs.{Inputs}
-use Rattle.driver_core.specs.declared.peer.Peer.{Peer}
-use Rattle.driver_core.specs.declared.settings.Settings.{Settings}
+use Rattle.driver_core.specs.declared.state.event.Event.{Event}
+use Rattle.driver_core.specs.declared.state.event.Event.TheVariants.{Attach, Command, Reload, Setup, Tick}
+use Rattle.driver_core.specs.declared.state.event.Inputs.{Inputs}
+use Rattle.driver_core.specs.declared.state.peer.Peer.{Peer}
+use Rattle.driver_core.specs.declared.state.settings.Settings.{Settings}
 use Rattle.driver_core.specs.Attaching.{attached}
 use Rattle.driver_core.specs.Closing.{close, keep_alive}
 use Rattle.driver_core.specs.Commands.{at_request, heard}
@@ -43,7 +43,7 @@ use Rattle.log_readers.specs.Unread.{is_kept, without_unread as without_unread_i
 use Rattle.policy_core.specs.RuleList.{Rules}
 use Rattle.stream_registry.specs.declared.pairs.Pair.{Pair}
 use Rattle.stream_registry.specs.declared.row.Registration.{Registration}
-use Rattle.stream_registry.specs.declared.row.Source.{Source}
+use Rattle.stream_registry.specs.declared.row.LogRow.{LogRow}
 use Rattle.stream_registry.specs.declared.wanted.Adding.{Adding}
 use Rattle.stream_registry.specs.declared.wanted.Adding.TheVariants.{Join, Make}
 use Rattle.stream_registry.specs.declared.wanted.ImageWanted.{ImageWanted}
@@ -68,10 +68,10 @@ use Rattle.driver_laws.proofs.NumberLemmas.{settled_number}
 
 -- ---- publications that stay
 
-abbrev PublicationsStay : List Source → List Source → Type 0
+abbrev PublicationsStay : List LogRow → List LogRow → Type 0
 PublicationsStay logs after = (source : ℕ) → HasPublication logs source → HasPublication after source
 
-more_stay : (logs : List Source) (log : Source) → PublicationsStay logs (logs ++ log ∷ [])
+more_stay : (logs : List LogRow) (log : LogRow) → PublicationsStay logs (logs ++ log ∷ [])
 more_stay logs log source was = record {
   log = was.log;
   stands = Contains-append_left logs (log ∷ []) was.log was.stands;
@@ -83,11 +83,11 @@ origin_stays : (now : ℕ) (origin : Origin) → is_published_by (left_by now or
 origin_stays now (Published exclusive since) = refl
 origin_stays now (Remote address initial_term join) = refl
 
-still_published : (used : Bool) (now : ℕ) (log : Source) → is_published (cond used log (left_alone now log)) ≡ is_published log
+still_published : (used : Bool) (now : ℕ) (log : LogRow) → is_published (cond used log (left_alone now log)) ≡ is_published log
 still_published true now log = refl
 still_published false now log = origin_stays now log.origin
 
-settled_stay : (registrations : List Registration) (now : ℕ) (logs : List Source) →
+settled_stay : (registrations : List Registration) (now : ℕ) (logs : List LogRow) →
     PublicationsStay logs (map (settled_one registrations now) logs)
 settled_stay registrations now logs source was =
     let used : Bool = is_used registrations was.log.number in
@@ -98,10 +98,10 @@ settled_stay registrations now logs source was =
       published = still_published used now was.log ∙ was.published;
     }
 
-is_kept_published : (pairs : List Pair) (log : Source) → is_published log ≡ true → is_kept pairs log ≡ true
+is_kept_published : (pairs : List Pair) (log : LogRow) → is_published log ≡ true → is_kept pairs log ≡ true
 is_kept_published pairs log published = rw published refl
 
-read_stay : (pairs : List Pair) (logs : List Source) → PublicationsStay logs (filter (is_kept pairs) logs)
+read_stay : (pairs : List Pair) (logs : List LogRow) → PublicationsStay logs (filter (is_kept pairs) logs)
 read_stay pairs logs source was = record {
   log = was.log;
   stands = passes_are_left (is_kept pairs) logs was.log (is_kept_published pairs was.log was.published) was.stands;
@@ -111,12 +111,12 @@ read_stay pairs logs source was = record {
 
 -- ---- a table of destinations beside the logs
 
-record Follows (before after : DestinationList) (logs : List Source) : Type 0 where
+record Follows (before after : DestinationList) (logs : List LogRow) : Type 0 where
   named_of : AreOfLive after logs
   above : ComeAbove before after
 
 -- where the table stays, and so do the publications
-stays_named : (destinations : DestinationList) (logs after : List Source) → PublicationsStay logs after →
+stays_named : (destinations : DestinationList) (logs after : List LogRow) → PublicationsStay logs after →
     AreOfLive destinations logs → AreOfLive destinations after
 stays_named destinations logs after stay were = record {
   live = λ destination has. stay destination.source (were.live destination has);
@@ -124,14 +124,14 @@ stays_named destinations logs after stay were = record {
   all = were.all;
 }
 
-stays : (destinations : DestinationList) (logs after : List Source) → PublicationsStay logs after →
+stays : (destinations : DestinationList) (logs after : List LogRow) → PublicationsStay logs after →
     AreOfLive destinations logs → Follows destinations destinations after
 stays destinations logs after stay were = record {
   named_of = stays_named destinations logs after stay were;
   above = record { last = omega arith; comes = λ destination has. inl has };
 }
 
-same : (destinations : DestinationList) (logs : List Source) → AreOfLive destinations logs →
+same : (destinations : DestinationList) (logs : List LogRow) → AreOfLive destinations logs →
     Follows destinations destinations logs
 same destinations logs were = stays destinations logs logs (λ source has. has) were
 
@@ -144,7 +144,7 @@ fewer test rows =
     omega (arith, both)
 
 -- those that pass the test stay, and have their publications
-passed : (destinations : DestinationList) (logs after : List Source) (test : Destination → Bool) →
+passed : (destinations : DestinationList) (logs after : List LogRow) (test : Destination → Bool) →
     ((destination : Destination) → Contains (filter test destinations.rows) destination →
     HasPublication after destination.source) → AreOfLive destinations logs →
     Follows destinations (record destinations { rows = filter test destinations.rows }) after
@@ -164,7 +164,7 @@ passed destinations logs after test live were =
       };
     }
 
-recalled_follows : (destinations : DestinationList) (logs : List Source) (source : ℕ) (address : Address) →
+recalled_follows : (destinations : DestinationList) (logs : List LogRow) (source : ℕ) (address : Address) →
     AreOfLive destinations logs → Follows destinations (without_named destinations source address) logs
 unfolding without_named
 recalled_follows destinations logs source address were =
@@ -173,17 +173,17 @@ recalled_follows destinations logs source address were =
     were.live destination (left_was_there (is_other source address) destinations.rows destination has)) were
 
 -- a destination whose publication closes goes with it
-closing_live : (destinations : DestinationList) (now : ℕ) (silent : List ℕ) (logs : List Source) (destination : Destination) →
+closing_live : (destinations : DestinationList) (now : ℕ) (silent : List ℕ) (logs : List LogRow) (destination : Destination) →
     is_of_others (numbers_of_closing now silent logs) destination ≡ true → HasPublication logs destination.source →
     HasPublication (filter (stays_live now silent) logs) destination.source
 closing_live destinations now silent logs destination others was =
-    let log : Source = was.log in
+    let log : LogRow = was.log in
     ⊎_elim
     (λ closes.
     let there = passes_are_left (is_closing now silent) logs log closes was.stands in
     let told : list_any (λ (source : ℕ). source == destination.source) (numbers_of_closing now silent logs) ≡ true =
     any_of (λ (source : ℕ). source == destination.source) (numbers_of_closing now silent logs) log.number
-    (mapped (λ (l : Source). l.number) (filter (is_closing now silent) logs) log there)
+    (mapped (λ (l : LogRow). l.number) (filter (is_closing now silent) logs) log there)
     (eq-eqb log.number destination.source was.source_is) in
     let never : false ≡ true = sym (ap not told) ∙ others in
     absurd (cc never))
@@ -196,7 +196,7 @@ closing_live destinations now silent logs destination others was =
     })
     (cases_Bool (is_closing now silent log))
 
-closed_follows : (destinations : DestinationList) (now : ℕ) (silent : List ℕ) (logs : List Source) → AreOfLive destinations logs →
+closed_follows : (destinations : DestinationList) (now : ℕ) (silent : List ℕ) (logs : List LogRow) → AreOfLive destinations logs →
     Follows destinations (without_sources destinations (numbers_of_closing now silent logs))
     (filter (stays_live now silent) logs)
 unfolding without_sources
@@ -207,7 +207,7 @@ closed_follows destinations now silent logs were =
     closing_live destinations now silent logs destination (passes_test test destinations.rows destination has)
     (were.live destination (left_was_there test destinations.rows destination has))) were
 
-all_gone : (destinations : DestinationList) (logs : List Source) → AreOfLive destinations logs →
+all_gone : (destinations : DestinationList) (logs : List LogRow) → AreOfLive destinations logs →
     Follows destinations (all_recalled destinations) []
 all_gone destinations logs were = record {
   named_of = record {
@@ -220,7 +220,7 @@ all_gone destinations logs were = record {
 
 -- ---- what comes
 
-named_follows : (destinations : DestinationList) (logs : List Source) (source : ℕ) (address : Address) (principal : ℕ)
+named_follows : (destinations : DestinationList) (logs : List LogRow) (source : ℕ) (address : Address) (principal : ℕ)
     (channel : Shape) (number : ℕ) → naming destinations source address ≡ Ok number → HasPublication logs source →
     AreOfLive destinations logs → Follows destinations (named destinations source address principal channel) logs
 unfolding named
@@ -253,7 +253,7 @@ named_follows destinations logs source address principal channel number is has w
       };
     }
 
-tried_follows : (destinations : DestinationList) (logs : List Source) (source : ℕ) (address : Address) (principal : ℕ)
+tried_follows : (destinations : DestinationList) (logs : List LogRow) (source : ℕ) (address : Address) (principal : ℕ)
     (channel : Shape) (found : Result ℕ DestinationFault) → naming destinations source address ≡ found →
     HasPublication logs source → AreOfLive destinations logs →
     Follows destinations (directed_by destinations source address principal channel found) logs
@@ -261,7 +261,7 @@ tried_follows destinations logs source address principal channel (Ok number) is 
     named_follows destinations logs source address principal channel number is has' were
 tried_follows destinations logs source address principal channel (Err why) is has' were = same destinations logs were
 
-sole_follows : (destinations : DestinationList) (logs : List Source) (source principal : ℕ) (channel : Shape)
+sole_follows : (destinations : DestinationList) (logs : List LogRow) (source principal : ℕ) (channel : Shape)
     (address : Option Address) → HasPublication logs source → AreOfLive destinations logs →
     Follows destinations (directed_to destinations source principal channel address) logs
 sole_follows destinations logs source principal channel None has' were = same destinations logs were
@@ -280,8 +280,8 @@ publication_follows : (t : State) (client : Client) (wanted : Wanted) (place : �
 unfolding with_sole
 publication_follows t client wanted place (Join source session) were = same t.destinations t.streams.sources were
 publication_follows t client wanted place (Make session) were =
-    let log : Source = log_of t.streams (t.last_number + 1) wanted place session in
-    let logs : List Source = t.streams.sources ++ log ∷ [] in
+    let log : LogRow = log_of t.streams (t.last_number + 1) wanted place session in
+    let logs : List LogRow = t.streams.sources ++ log ∷ [] in
     sole_follows t.destinations logs (t.last_number + 1) client.principal wanted.channel (sole_address wanted.channel)
     (record { log = log; stands = Contains-push t.streams.sources log; source_is = refl; published = refl })
     (stays_named t.destinations t.streams.sources logs (more_stay t.streams.sources log) were)

@@ -3,10 +3,9 @@ use Rattle.std.proofs.Common.{◌≡◌, ℕ, ◌==◌, not, nat_lt, Bool, true,
 use Rattle.std.specs.List.{All}
 use Rattle.std.proofs.lemmas.Bool.{cond_both, eq-eqb}
 use Rattle.std.proofs.lemmas.List.Elements.{All-cons, All-nil}
-use Rattle.any_log.specs.Whole.{AnyWhole, whole, rebuilt, position_in, rejoined}
-use Rattle.driver_core.specs.declared.event.Event.TheVariants.{Setup as SetUp}
-use Rattle.driver_core.specs.declared.log_request.LogRequest.{LogRequest}
-use Rattle.driver_core.specs.declared.settings.Settings.{Settings}
+use Rattle.driver_core.specs.declared.state.event.Event.TheVariants.{Setup as SetUp}
+use Rattle.driver_core.specs.declared.asked.log_request.LogRequest.{LogRequest}
+use Rattle.driver_core.specs.declared.state.settings.Settings.{Settings}
 use Rattle.driver_core.specs.LogRequests.{offering_of, receiving_of}
 use Rattle.driver_core.specs.PublicationRequests.{publisher_of}
 use Rattle.driver_core.specs.Readers.{readers_of}
@@ -15,27 +14,27 @@ use Rattle.driver_laws.specs.NewLogLaws.{HasNoEntry, HasNoFrame, IsEmpty, NewLog
 use Rattle.driver_laws.specs.OlderLaws.{AtEachRegistry}
 use Rattle.driver_laws.proofs.BlankLemmas.{blank_held}
 use Rattle.driver_laws.proofs.WorldLemmas.{of_worlds}
-use Rattle.driver_steps.specs.declared.answer.Answer.{Answer}
-use Rattle.driver_steps.specs.declared.answer.Answer.TheVariants.{Offered as OfferedAs, Gone as IsGone}
-use Rattle.driver_steps.specs.declared.answer.Offered.TheVariants.{Closed}
+use Rattle.log_steps.specs.declared.answer.Answer.{Answer}
+use Rattle.log_steps.specs.declared.answer.Answer.TheVariants.{Offered as OfferedAs, Gone as IsGone}
+use Rattle.log_steps.specs.declared.answer.Offered.TheVariants.{Closed}
 use Rattle.driver_steps.specs.declared.step.Step.{Step}
 use Rattle.driver_steps.specs.declared.step.Step.TheVariants.{Conductor, Packet, Offer as Offers, Poll as Polls, Image, List as Lists, Send, Value}
-use Rattle.driver_steps.specs.Ends.{RunEnd, log_at, on_log, on_offered_by}
-use Rattle.driver_steps.specs.Idents.{begins_by, ident_of}
-use Rattle.driver_steps.specs.Moves.{WholeLog, Move, offer_move, offer_to, offer_under, poll_move, poll_under}
-use Rattle.driver_steps.specs.Receiving.{beat_move, receive_move, unheard}
-use Rattle.driver_steps.specs.Seen.{moved_seen}
-use Rattle.driver_steps.specs.Sending.{send_move}
+use Rattle.driver_steps.specs.Ends.{log_at, moved_by, on_log, on_offered, RunEnd}
+use Rattle.log_steps.specs.Idents.{begins_by, ident_of}
+use Rattle.log_steps.specs.Moves.{WholeLog, Move, offer_move, offer_to, offer_under, poll_move, poll_under}
+use Rattle.log_steps.specs.Receiving.{beat_move, receive_move, unheard}
+use Rattle.log_steps.specs.Sending.{send_move}
 use Rattle.driver_steps.proofs.LiveLemmas.{IsKept, event_keeps, found_log, log_keeps}
 use Rattle.driver_steps.proofs.PacketLemmas.{packet_cases}
 use Rattle.driver_steps.proofs.QuietLemmas.{report_cases, send_quiet}
 use Rattle.frame_codec.specs.Datagram.{packet_of}
 use Rattle.image_log.specs.Rebuilt.{Rebuilt, settled}
 use Rattle.image_log.specs.Stored.{IsBlank}
+use Rattle.log_traffic.specs.Whole.{AnyWhole, whole, rebuilt, position_in, rejoined}
 use Rattle.policy_core.specs.declared.verdict.Verdict.{Verdict}
 use Rattle.stream_registry.specs.declared.row.Origin.{Origin}
 use Rattle.stream_registry.specs.declared.row.Origin.TheVariants.{Published, Remote}
-use Rattle.stream_registry.specs.declared.row.Source.{Source}
+use Rattle.stream_registry.specs.declared.row.LogRow.{LogRow}
 use Rattle.term_log.specs.Log.{greatest_message}
 use Rattle.term_log.specs.Whole.{Whole, fresh, is_connected, rejoined as term_rejoined}
 
@@ -51,7 +50,7 @@ no_entry r none = record {
   zeros = λ len bytes blank at. (subst (λ fs. IsBlank len fs bytes) none blank) at refl;
 }
 
-begins_empty : (settings : Settings) (now : ℕ) (log : Source) (origin : Origin) → IsEmpty (begins_by settings now log origin)
+begins_empty : (settings : Settings) (now : ℕ) (log : LogRow) (origin : Origin) → IsEmpty (begins_by settings now log origin)
 begins_empty settings now log (Published exclusive since) = no_frame (fresh (ident_of settings log)) refl refl
 begins_empty settings now log (Remote address initial_term join) = no_entry _ refl
 
@@ -125,7 +124,7 @@ offer_under_source s now message log (Some request) =
     (λ _. offer_to_source now s.settings.connection_timeout request.decision.verdict message log log.whole)
 
 offer_known : (s : State) (e : RunEnd) (now client registration : ℕ) (message : List ℕ) (o : Option LogRequest) →
-    All (NewIf e) (on_offered_by s e now client registration message o).after.logs
+    All (NewIf e) (on_offered s e now client registration message o).after.logs
 unfolding offer_move
 offer_known s e now client registration message None = all_known e
 offer_known s e now client registration message (Some request) =
@@ -147,7 +146,7 @@ poll_known s e client subscription source limit =
     (λ log.
     poll_under_source subscription limit log (receiving_of s client subscription log.source) (position_in log.whole subscription))
 
-step_known : (s : State) (e : RunEnd) (step : Step) → All (NewIf e) (moved_seen s e step).after.logs
+step_known : (s : State) (e : RunEnd) (step : Step) → All (NewIf e) (moved_by s e step).after.logs
 step_known s e (Conductor event) = event_keeps (NewIf e) e event (new_kept e) (all_known e)
 step_known s e (Packet now local from bytes) =
     packet_cases (λ what. All (NewIf e) what.after.logs) s e now local from (record {
@@ -171,7 +170,7 @@ step_known s e (Value now client number) = all_known e
 opens_empty : (s : State) (e : RunEnd) → OpensEmptyLogs s e
 opens_empty s e = record {
   opens = λ step source log none found.
-      (let there = found_log (NewIf e) source log (moved_seen s e step).after.logs (step_known s e step) found in
+      (let there = found_log (NewIf e) source log (moved_by s e step).after.logs (step_known s e step) found in
       there.holds (subst (λ (n : ℕ). log_at e.logs n ≡ None) (sym there.source_is) none));
 }
 

@@ -1,9 +1,9 @@
 -- What an event brings has a number above those that were drawn before.
 use Rattle.std.proofs.Common.{◌≡◌, ℕ, ◌+◌, ◌<◌, ◌≤◌, List, [], ◌∷◌, inl, inr, refl, sym, subst, ap, ◌∙◌, ◌⊎◌, ⊎_elim, arith}
 use Rattle.std.proofs.lemmas.Bool.{cond_both}
-use Rattle.driver_core.specs.declared.event.Event.{Event}
-use Rattle.driver_core.specs.declared.event.Event.TheVariants.{Attach, Command, Reload, Setup, Tick}
-use Rattle.driver_core.specs.declared.event.Inputs.{Inputs}
+use Rattle.driver_core.specs.declared.state.event.Event.{Event}
+use Rattle.driver_core.specs.declared.state.event.Event.TheVariants.{Attach, Command, Reload, Setup, Tick}
+use Rattle.driver_core.specs.declared.state.event.Inputs.{Inputs}
 use Rattle.driver_core.specs.Conduct.{coming_to, state_after, state_of}
 use Rattle.driver_core.specs.Reloading.{has_room_for_policy}
 use Rattle.driver_core.specs.State.{State, at_moment, ruled}
@@ -14,7 +14,7 @@ use Rattle.driver_laws.specs.ReloadLaws.{Numbered, in_force_at, newest_after}
 use Rattle.driver_laws.specs.SubscribingLaws.{IsMadeBy}
 use Rattle.client_registry.specs.declared.client.Client.{Client}
 use Rattle.counters.specs.declared.counter.Counter.{Counter}
-use Rattle.stream_registry.specs.declared.row.Source.{Source}
+use Rattle.stream_registry.specs.declared.row.LogRow.{LogRow}
 use Rattle.stream_registry.specs.declared.row.Registration.{Registration}
 use Rattle.stream_registry.specs.declared.row.Subscription.{Subscription}
 use Rattle.driver_laws.proofs.ClientComingLemmas.{clients_come}
@@ -43,9 +43,9 @@ policy_above s event inputs =
     subst (IsOrAbove s) (sym (newest_in_force s event inputs)) (newest_above s event)
 
 -- an image has the next number
-pub image_number : (s : State) (event : Event) (log : Source) → IsImageMadeBy s event log → log.number ≡ s.last_number + 1
+pub image_number : (s : State) (event : Event) (log : LogRow) → IsImageMadeBy s event log → log.number ≡ s.last_number + 1
 unfolding at_moment
-image_number s event log made = ap (λ (p : Source). p.number) made.log_is
+image_number s event log made = ap (λ (p : LogRow). p.number) made.log_is
 
 pub comes_above : (s : State) (event : Event) (inputs : Inputs) → ComesAbove s (state_after s event inputs)
 unfolding ruled
@@ -56,7 +56,7 @@ comes_above s event inputs = record {
       (λ others.
       ⊎_elim
       (λ (made : IsLogMadeBy (coming_to s event) event log).
-      let is : log.number ≡ s.last_number + 1 = ap (λ (p : Source). p.number) made.made_is in
+      let is : log.number ≡ s.last_number + 1 = ap (λ (p : LogRow). p.number) made.made_is in
       inr (omega (arith, is)))
       (λ (made : IsImageMadeBy (coming_to s event) event log).
       let is : log.number ≡ s.last_number + 1 = image_number (coming_to s event) event log made in
@@ -119,13 +119,13 @@ client_above s between client lowers first last =
     inr (omega (arith, low, new)))
     last
 
-log_above : (s between : State) (log : Source) → NeverLowers s between → ComesAbove s between →
+log_above : (s between : State) (log : LogRow) → NeverLowers s between → ComesAbove s between →
     WasLive between.streams log ⊎ (between.last_number < log.number) →
     WasLive s.streams log ⊎ (s.last_number < log.number)
 log_above s between log lowers first last =
     ⊎_elim
     (λ (was : WasLive between.streams log).
-    let number = ap (λ (p : Source). p.number) was.same in
+    let number = ap (λ (p : LogRow). p.number) was.same in
     ⊎_elim
     (λ (stood : WasLive s.streams was.before).
     inl (record {

@@ -1,13 +1,13 @@
 -- Each event keeps the numbers rising, and draws the next ones alone.
 use Rattle.std.proofs.Common.{◌≡◌, ℕ, ◌+◌, ◌==◌, ℤ, Bool, true, false, cond, List, [], ◌∷◌, refl, ◌∙◌, arith}
 use Rattle.driver_core.specs.Directing.{directed, recalled, with_destination, without_destination}
-use Rattle.driver_core.specs.declared.event.Event.{Event}
-use Rattle.driver_core.specs.declared.event.Event.TheVariants.{Attach, Command, Reload, Setup, Tick}
-use Rattle.driver_core.specs.declared.event.Inputs.{Inputs}
-use Rattle.driver_core.specs.declared.outcome.Response.{Response}
-use Rattle.driver_core.specs.declared.peer.Peer.{Peer}
-use Rattle.driver_core.specs.declared.refusal.Refusal.{Refusal}
-use Rattle.driver_core.specs.declared.settings.Settings.{Settings}
+use Rattle.driver_core.specs.declared.state.event.Event.{Event}
+use Rattle.driver_core.specs.declared.state.event.Event.TheVariants.{Attach, Command, Reload, Setup, Tick}
+use Rattle.driver_core.specs.declared.state.event.Inputs.{Inputs}
+use Rattle.driver_core.specs.declared.state.outcome.Response.{Response}
+use Rattle.driver_core.specs.declared.state.peer.Peer.{Peer}
+use Rattle.driver_core.specs.declared.state.refusal.Refusal.{Refusal}
+use Rattle.driver_core.specs.declared.state.settings.Settings.{Settings}
 use Rattle.driver_core.specs.Attaching.{attached}
 use Rattle.driver_core.specs.Closing.{close, keep_alive}
 use Rattle.driver_core.specs.Commands.{heard, at_request}
@@ -36,7 +36,7 @@ use Rattle.counters.specs.declared.counter.Counter.{Counter}
 use Rattle.counters.specs.Counters.{is_another, is_of_another, is_own, set, set_one, without as counters_without, without_those_of}
 use Rattle.policy_core.specs.declared.decision.Decision.{Decision}
 use Rattle.policy_core.specs.RuleList.{Rules}
-use Rattle.stream_registry.specs.declared.row.Source.{Source}
+use Rattle.stream_registry.specs.declared.row.LogRow.{LogRow}
 use Rattle.stream_registry.specs.declared.row.Registration.{Registration}
 use Rattle.stream_registry.specs.declared.row.Subscription.{Subscription}
 use Rattle.stream_registry.specs.declared.wanted.Adding.{Adding}
@@ -57,7 +57,7 @@ use Rattle.driver_laws.proofs.RisingLemmas.{rises_drawn, rises_kept, rises_mappe
 abbrev client_number : Client → ℕ
 client_number client = client.number
 
-abbrev pub source_number : Source → ℕ
+abbrev pub source_number : LogRow → ℕ
 source_number log = log.number
 
 abbrev registration_number : Registration → ℕ
@@ -69,7 +69,7 @@ subscription_number subscription = subscription.number
 abbrev counter_number : Counter → ℕ
 counter_number counter = counter.number
 
-pub settled_number : (b : Bool) (now : ℕ) (log : Source) → (cond b log (left_alone now log)).number ≡ log.number
+pub settled_number : (b : Bool) (now : ℕ) (log : LogRow) → (cond b log (left_alone now log)).number ≡ log.number
 settled_number true now log = refl
 settled_number false now log = refl
 

@@ -1,22 +1,21 @@
 -- Status messages by any registry of a run.
 use Rattle.std.proofs.Common.{◌≡◌, ℕ, Bool, true, false, cond, List, Option, Some, None, Ok, refl, sym, ap, ◌∙◌}
 use Rattle.channel_uri.specs.declared.address.Address.{Address}
-use Rattle.driver_core.specs.declared.publication_request.JoinRequest.{JoinRequest}
+use Rattle.driver_core.specs.declared.asked.publication_request.JoinRequest.{JoinRequest}
 use Rattle.driver_core.specs.PublicationRequests.{join_decision, joined_by, joining_of, publication_at}
 use Rattle.driver_core.specs.State.{State}
 use Rattle.driver_core.proofs.VerdictLemmas.{by_policy}
 use Rattle.driver_laws.specs.OlderLaws.{JoinIsDecidedBy, JoinsAreDecidedBy, JoinsByAnyRegistryAreGrantedExactly}
 use Rattle.driver_laws.specs.StepActs.{join_question}
-use Rattle.driver_steps.specs.declared.answer.Answer.TheVariants.{Dropped}
-use Rattle.driver_steps.specs.declared.cause.Cause.TheVariants.{Denied, Full as IsFull}
+use Rattle.log_steps.specs.declared.answer.Answer.TheVariants.{Dropped}
+use Rattle.log_steps.specs.declared.cause.Cause.TheVariants.{Denied, Full as IsFull}
 use Rattle.driver_steps.specs.declared.step.Step.TheVariants.{Packet}
-use Rattle.driver_steps.specs.Ends.{RunEnd, log_at, moved_on, on_log, on_told}
-use Rattle.driver_steps.specs.Hearing.{heard_move, learn_move, status_move, with_learnt}
+use Rattle.driver_steps.specs.Ends.{log_at, moved_by, moved_on, on_log, on_packet, on_told, RunEnd}
+use Rattle.log_steps.specs.Hearing.{heard_move, learn_move, status_move, with_learnt}
 use Rattle.driver_steps.specs.JoinLaws.{moved_by_log}
 use Rattle.driver_steps.specs.Laws.{stays}
-use Rattle.driver_steps.specs.Moves.{Move, WholeLog, answered}
-use Rattle.driver_steps.specs.Receiving.{unheard}
-use Rattle.driver_steps.specs.Seen.{moved_seen, packet_seen}
+use Rattle.log_steps.specs.Moves.{Move, WholeLog, answered}
+use Rattle.log_steps.specs.Receiving.{unheard}
 use Rattle.driver_steps.proofs.DecisionLemmas.{left_by, log_moves, stays_left}
 use Rattle.driver_steps.proofs.FoundLemmas.{found_source}
 use Rattle.frame_codec.specs.declared.status_message.StatusMessage.{StatusMessage}
@@ -25,33 +24,33 @@ use Rattle.learnt_addresses.specs.declared.learning.Learning.{Learning}
 use Rattle.learnt_addresses.specs.declared.learning.Learning.TheVariants.{Full, Learnt, Renewed}
 use Rattle.learnt_addresses.specs.LearntAddresses.{forgotten, learning, learnt}
 use Rattle.policy_core.specs.declared.decision.Decision.{Decision}
-use Rattle.stream_registry.specs.declared.row.Source.{Source}
+use Rattle.stream_registry.specs.declared.row.LogRow.{LogRow}
 use Rattle.stream_registry.specs.Places.{is_dynamic}
 
 -- ---- what is asked of the policy
 
-told_is : (s : State) (e : RunEnd) (now : ℕ) (local from : Address) (bytes : List ℕ) (fields : StatusMessage) (o : Option Source) →
+told_is : (s : State) (e : RunEnd) (now : ℕ) (local from : Address) (bytes : List ℕ) (fields : StatusMessage) (o : Option LogRow) →
     packet_of bytes ≡ Ok (status fields) → publication_at s fields.session_id fields.stream_id ≡ o →
-    moved_seen s e (Packet now local from bytes) ≡ on_told e now from fields (joined_by s from o)
+    moved_by s e (Packet now local from bytes) ≡ on_told e now from fields (joined_by s from o)
 unfolding joining_of
 told_is s e now local from bytes fields o read is =
-    ap (packet_seen s e now local from) read ∙ ap (λ (p : Option Source). on_told e now from fields (joined_by s from p)) is
+    ap (on_packet s e now local from) read ∙ ap (λ (p : Option LogRow). on_told e now from fields (joined_by s from p)) is
 
 -- a publication that learns its destinations asks the policy, and another one does not
-abbrev request_by : Source → Option Decision → Option JoinRequest
+abbrev request_by : LogRow → Option Decision → Option JoinRequest
 request_by publication decision = Some (record { source = publication.number; decision = decision })
 
-joins_by : (s : State) (from : Address) (publication : Source) (dynamic : Bool) → is_dynamic publication.channel ≡ dynamic →
+joins_by : (s : State) (from : Address) (publication : LogRow) (dynamic : Bool) → is_dynamic publication.channel ≡ dynamic →
     joined_by s from (Some publication)
     ≡ request_by publication (cond dynamic (Some (join_decision s from publication)) None)
 joins_by s from publication dynamic is =
     ap (λ (b : Bool). request_by publication (cond b (Some (join_decision s from publication)) None)) is
 
-told_on : (s : State) (e : RunEnd) (now : ℕ) (local from : Address) (bytes : List ℕ) (fields : StatusMessage) (publication : Source)
+told_on : (s : State) (e : RunEnd) (now : ℕ) (local from : Address) (bytes : List ℕ) (fields : StatusMessage) (publication : LogRow)
     (log : WholeLog) (dynamic : Bool) → packet_of bytes ≡ Ok (status fields) →
     publication_at s fields.session_id fields.stream_id ≡ Some publication → is_dynamic publication.channel ≡ dynamic →
     log_at e.logs publication.number ≡ Some log →
-    moved_seen s e (Packet now local from bytes)
+    moved_by s e (Packet now local from bytes)
     ≡ left_by e publication.number
     (status_move now from (cond dynamic (Some (join_decision s from publication)) None) fields log)
 told_on s e now local from bytes fields publication log dynamic read is kind found =
@@ -77,18 +76,18 @@ heard_after now from fields log Full other = absurd (other refl)
 heard_after now from fields log Learnt other = refl
 heard_after now from fields log Renewed other = refl
 
-join_there : (s : State) (e : RunEnd) (now : ℕ) (local from : Address) (bytes : List ℕ) (fields : StatusMessage) (publication : Source)
+join_there : (s : State) (e : RunEnd) (now : ℕ) (local from : Address) (bytes : List ℕ) (fields : StatusMessage) (publication : LogRow)
     (log : WholeLog) → packet_of bytes ≡ Ok (status fields) →
     publication_at s fields.session_id fields.stream_id ≡ Some publication → is_dynamic publication.channel ≡ true →
     log_at e.logs publication.number ≡ Some log →
-    JoinIsDecidedBy s e now from fields publication log (moved_seen s e (Packet now local from bytes))
+    JoinIsDecidedBy s e now from fields publication log (moved_by s e (Packet now local from bytes))
 join_there s e now local from bytes fields publication log read is dynamic found =
     let decision : Decision = join_decision s from publication in
     let n : ℕ = publication.number in
-    let moves : moved_seen s e (Packet now local from bytes) ≡ left_by e n (join_on now from decision fields log decision.verdict.allow) =
+    let moves : moved_by s e (Packet now local from bytes) ≡ left_by e n (join_on now from decision fields log decision.verdict.allow) =
     told_on s e now local from bytes fields publication log true read is dynamic found in
     let allowed : decision.verdict.allow ≡ true →
-    moved_seen s e (Packet now local from bytes) ≡ left_by e n (learn_move now from fields log (learning log.recovery.learnt from)) =
+    moved_by s e (Packet now local from bytes) ≡ left_by e n (learn_move now from fields log (learning log.recovery.learnt from)) =
     λ allows. moves ∙ ap (λ (b : Bool). left_by e n (join_on now from decision fields log b)) allows in
     record {
       by = by_policy s (join_question s from publication);
@@ -106,9 +105,9 @@ join_there s e now local from bytes fields publication log read is dynamic found
           ∙ by_log e n log (heard_move now fields (with_learnt (learnt now from log.recovery.learnt) log)) found;
     }
 
-join_closed : (s : State) (e : RunEnd) (now : ℕ) (local from : Address) (bytes : List ℕ) (fields : StatusMessage) (publication : Source) →
+join_closed : (s : State) (e : RunEnd) (now : ℕ) (local from : Address) (bytes : List ℕ) (fields : StatusMessage) (publication : LogRow) →
     packet_of bytes ≡ Ok (status fields) → publication_at s fields.session_id fields.stream_id ≡ Some publication →
-    log_at e.logs publication.number ≡ None → moved_seen s e (Packet now local from bytes) ≡ stays e unheard
+    log_at e.logs publication.number ≡ None → moved_by s e (Packet now local from bytes) ≡ stays e unheard
 unfolding on_log
 join_closed s e now local from bytes fields publication read is none =
     told_is s e now local from bytes fields (Some publication) read is

@@ -2,13 +2,13 @@
 use Rattle.std.proofs.Common.{◌≡◌, ℕ, ◌<◌, ◌==◌, ◌&&◌, not, nat_lt, Bool, true, false, cond, List, [], ◌∷◌, length, map, take, drop, Contains, Option, Some, None, ⊎_elim, refl, sym, ap, subst, ◌∙◌, arith}
 use Rattle.std.proofs.lemmas.Bool.{cond_both, eq-eqb, eqb-true, ne_eqb}
 use Rattle.std.proofs.lemmas.List.{take-append-drop}
-use Rattle.any_log.specs.Held.{Made}
-use Rattle.any_log.specs.Whole.{whole, made_for as made_any, position_in}
-use Rattle.driver_core.specs.declared.event.Event.{Event}
-use Rattle.driver_core.specs.declared.event.Inputs.{Inputs}
-use Rattle.driver_core.specs.declared.log_request.LogRequest.{LogRequest}
-use Rattle.driver_core.specs.declared.peer.Peer.{Peer}
-use Rattle.driver_core.specs.declared.settings.Settings.{Settings}
+use Rattle.log_traffic.specs.Held.{Made}
+use Rattle.log_traffic.specs.Whole.{whole, made_for as made_any, position_in}
+use Rattle.driver_core.specs.declared.state.event.Event.{Event}
+use Rattle.driver_core.specs.declared.state.event.Inputs.{Inputs}
+use Rattle.driver_core.specs.declared.asked.log_request.LogRequest.{LogRequest}
+use Rattle.driver_core.specs.declared.state.peer.Peer.{Peer}
+use Rattle.driver_core.specs.declared.state.settings.Settings.{Settings}
 use Rattle.driver_core.specs.Conduct.{state_of}
 use Rattle.driver_core.specs.LogRequests.{has_pair, offering_of, offered_by, received_on, receiving_of, registration_at, row_decision}
 use Rattle.driver_core.specs.Renewal.{source_at, subscription_at}
@@ -25,17 +25,16 @@ use Rattle.driver_laws.proofs.LoggedLemmas.{found_in, registrations_logged}
 use Rattle.driver_laws.proofs.NewNumberLemmas.{never_drawn_again}
 use Rattle.driver_laws.proofs.NumberLemmas.{are_drawn, numbers_rise}
 use Rattle.driver_laws.proofs.RisingLemmas.{rises_unique}
-use Rattle.driver_steps.specs.declared.answer.Answer.{Answer}
-use Rattle.driver_steps.specs.declared.answer.Answer.TheVariants.{Offered as OfferedAs, Denied, Gone as IsGone}
-use Rattle.driver_steps.specs.declared.answer.Offered.TheVariants.{Closed, TooLong, NotConnected}
+use Rattle.log_steps.specs.declared.answer.Answer.{Answer}
+use Rattle.log_steps.specs.declared.answer.Answer.TheVariants.{Offered as OfferedAs, Denied, Gone as IsGone}
+use Rattle.log_steps.specs.declared.answer.Offered.TheVariants.{Closed, TooLong, NotConnected}
 use Rattle.driver_steps.specs.declared.step.Step.TheVariants.{Offer, Poll}
-use Rattle.driver_steps.specs.Ends.{RunEnd, Moved, log_at, moved_on, on_log, on_offered_by, opening_end}
-use Rattle.driver_steps.specs.Idents.{made_of}
+use Rattle.driver_steps.specs.Ends.{log_at, Moved, moved_by, moved_on, on_log, on_offered, opening_end, RunEnd}
+use Rattle.log_steps.specs.Idents.{made_of}
 use Rattle.driver_steps.specs.Laws.{AsksToOffer, AsksToPoll, LogsFollow, OfferRequest, PollRequest, given_by_log, made_as, made_for, offer_question, poll_question, stays, taken_by_log, taken_from}
-use Rattle.driver_steps.specs.Moves.{Move, WholeLog, answered, given, offer_let, offer_move, offer_to, offer_under, poll_move, poll_under, taken}
+use Rattle.log_steps.specs.Moves.{Move, WholeLog, answered, given, offer_let, offer_move, offer_to, offer_under, poll_move, poll_under, taken}
 use Rattle.driver_steps.specs.Runs.{Reading, end_of}
 use Rattle.policy_core.specs.RuleList.{Rules}
-use Rattle.driver_steps.specs.Seen.{moved_seen}
 use Rattle.driver_steps.proofs.DecisionLemmas.{appended_for, left_by, log_moves, made_at, published_made, stays_left, IsAppended, IsForPublication}
 use Rattle.driver_steps.proofs.EndLemmas.{opening_is, run_takes, state_of_both}
 use Rattle.driver_steps.proofs.FollowLemmas.{logs_follow}
@@ -44,7 +43,7 @@ use Rattle.policy_core.specs.declared.act.Act.TheVariants.{Offer as ToOffer, Rec
 use Rattle.stream_registry.specs.declared.row.Origin.{Origin}
 use Rattle.stream_registry.specs.declared.row.Origin.TheVariants.{Published, Remote}
 use Rattle.stream_registry.specs.declared.row.Registration.{Registration}
-use Rattle.stream_registry.specs.declared.row.Source.{Source}
+use Rattle.stream_registry.specs.declared.row.LogRow.{LogRow}
 use Rattle.stream_registry.specs.declared.row.Subscription.{Subscription}
 use Rattle.stream_registry.specs.Origins.{is_published, is_published_by, unlingering}
 use Rattle.term_log.specs.Log.{greatest_message}
@@ -52,51 +51,51 @@ use Rattle.term_log.specs.Whole.{Whole, is_connected}
 
 -- ---- the log of a number
 
-number_found : (logs : List Source) (n : ℕ) (log : Source) → source_at logs n ≡ Some log → log.number ≡ n
-number_found logs n log is = eqb-true log.number n (found_in (λ (one : Source). one.number == n) logs log is).passes
+number_found : (logs : List LogRow) (n : ℕ) (log : LogRow) → source_at logs n ≡ Some log → log.number ≡ n
+number_found logs n log is = eqb-true log.number n (found_in (λ (one : LogRow). one.number == n) logs log is).passes
 
 origin_published : (o : Origin) → is_published_by (unlingering o) ≡ is_published_by o
 origin_published (Published exclusive since) = refl
 origin_published (Remote address initial_term join) = refl
 
-pub same_published : (log other : Source) → IsSameLog log other → is_published log ≡ is_published other
+pub same_published : (log other : LogRow) → IsSameLog log other → is_published log ≡ is_published other
 same_published log other same =
-    sym (origin_published log.origin) ∙ ap (λ (one : Source). is_published one) same ∙ origin_published other.origin
+    sym (origin_published log.origin) ∙ ap (λ (one : LogRow). is_published one) same ∙ origin_published other.origin
 
 -- whatever log has the number of one that somebody was registered with is that publication
 still_published : (s after : State) → AreRising s → HaveTheirLogs s.streams → ComesAbove s after → (registration : Registration) →
-    Contains s.streams.registrations registration → (log : Source) → Contains after.streams.sources log → log.number ≡ registration.source →
+    Contains s.streams.registrations registration → (log : LogRow) → Contains after.streams.sources log → log.number ≡ registration.source →
     is_published log ≡ true
 still_published s after rises logged above registration has log stands number =
     let named : HasLog s.streams.sources registration.source = logged registration has in
     ⊎_elim
     (λ (was : WasLive s.streams log).
-    let alike : log.number ≡ was.before.number = ap (λ (one : Source). one.number) was.same in
+    let alike : log.number ≡ was.before.number = ap (λ (one : LogRow). one.number) was.same in
     let same : was.before.number ≡ named.log.number = sym alike ∙ number ∙ sym named.source_is in
     let is : was.before ≡ named.log =
-    rises_unique (λ (one : Source). one.number) 0 s.last_number s.streams.sources was.before named.log rises.sources was.stood named.stands same in
-    same_published log was.before was.same ∙ ap (λ (one : Source). is_published one) is ∙ named.published)
+    rises_unique (λ (one : LogRow). one.number) 0 s.last_number s.streams.sources was.before named.log rises.sources was.stood named.stands same in
+    same_published log was.before was.same ∙ ap (λ (one : LogRow). is_published one) is ∙ named.published)
     (λ (new : s.last_number < log.number).
     let drawn = (are_drawn s rises).sources named.log named.stands in
     absurd (omega (arith, new, number, named.source_is, drawn.below)))
     (above.sources log stands)
 
-row_step : (b : Bool) (source : Source) (found : Option Source) (first log : WholeLog) (logs : Option WholeLog) →
-    (logs ≡ Some log → (row : Source) × (found ≡ Some row)) → cond b (Some first) logs ≡ Some log →
-    (row : Source) × (cond b (Some source) found ≡ Some row)
+row_step : (b : Bool) (source : LogRow) (found : Option LogRow) (first log : WholeLog) (logs : Option WholeLog) →
+    (logs ≡ Some log → (row : LogRow) × (found ≡ Some row)) → cond b (Some first) logs ≡ Some log →
+    (row : LogRow) × (cond b (Some source) found ≡ Some row)
 row_step true source found first log logs rest is = (source, refl)
 row_step false source found first log logs rest is = rest is
 
 -- each open log is that of a live source of its number
-pub row_of : (settings : Settings) (logs : List WholeLog) (sources : List Source) (n : ℕ) (log : WholeLog) →
-    map made_for logs ≡ map (made_as settings) sources → log_at logs n ≡ Some log → (row : Source) × (source_at sources n ≡ Some row)
+pub row_of : (settings : Settings) (logs : List WholeLog) (sources : List LogRow) (n : ℕ) (log : WholeLog) →
+    map made_for logs ≡ map (made_as settings) sources → log_at logs n ≡ Some log → (row : LogRow) × (source_at sources n ≡ Some row)
 row_of settings [] sources n log made found = absurd (cc found)
 row_of settings (first ∷ logs) [] n log made found = absurd (cc made)
 row_of settings (first ∷ logs) (source ∷ sources) n log made found =
     let both : made_for first ≡ made_as settings source = cc made in
     let others : map made_for logs ≡ map (made_as settings) sources = cc made in
     let same : first.source ≡ source.number = ap (λ (m : ℕ × Made). m.0) both in
-    subst (λ m. (row : Source) × (cond (m == n) (Some source) (source_at sources n) ≡ Some row)) same
+    subst (λ m. (row : LogRow) × (cond (m == n) (Some source) (source_at sources n) ≡ Some row)) same
     (row_step (first.source == n) source (source_at sources n) first log (log_at logs n) (row_of settings logs sources n log others) found)
 
 appended_by : (s : State) (e : RunEnd) → LogsFollow e → AreRising s → HaveTheirLogs s.streams → ComesAbove s e.registry →
@@ -104,10 +103,10 @@ appended_by : (s : State) (e : RunEnd) → LogsFollow e → AreRising s → Have
     log_at e.logs request.publication.number ≡ Some log → IsAppended log
 appended_by s e follows rises logged above handle number request log asks found =
     let settings : Settings = e.registry.settings in
-    let sources : List Source = e.registry.streams.sources in
+    let sources : List LogRow = e.registry.streams.sources in
     let n : ℕ = request.publication.number in
     let row = row_of settings e.logs sources n log follows.made found in
-    let at = found_in (λ (one : Source). one.number == n) sources row.0 row.1 in
+    let at = found_in (λ (one : LogRow). one.number == n) sources row.0 row.1 in
     let registered =
     found_in (λ (one : Registration). one.number == number && one.client == handle) s.streams.registrations request.registration asks.registration_is in
     let same : row.0.number ≡ request.registration.source =
@@ -133,10 +132,10 @@ offering_is s handle number request asks = rw (asks.client_is, asks.registration
 
 offer_is : (s : State) (e : RunEnd) (now handle number : ℕ) (message : List ℕ) (asked : LogRequest) (log : WholeLog) →
     offering_of s handle number ≡ Some asked → log_at e.logs asked.source ≡ Some log →
-    moved_seen s e (Offer now handle number message) ≡ left_by e asked.source (offer_under s now message log (Some asked))
+    moved_by s e (Offer now handle number message) ≡ left_by e asked.source (offer_under s now message log (Some asked))
 unfolding offer_move
 offer_is s e now handle number message asked log is found =
-    ap (on_offered_by s e now handle number message) is
+    ap (on_offered s e now handle number message) is
     ∙ log_moves e asked.source (offer_move s now handle number message) (OfferedAs Closed) log found
     ∙ ap (λ (o : Option LogRequest). left_by e asked.source (offer_under s now message log o)) is
 
@@ -181,10 +180,10 @@ offer_denied s e now message asked log frames found is denies =
 
 offer_closed : (s : State) (e : RunEnd) (now handle number : ℕ) (message : List ℕ) (asked : LogRequest) →
     offering_of s handle number ≡ Some asked → log_at e.logs asked.source ≡ None →
-    moved_seen s e (Offer now handle number message) ≡ stays e (OfferedAs Closed)
+    moved_by s e (Offer now handle number message) ≡ stays e (OfferedAs Closed)
 unfolding on_log
 offer_closed s e now handle number message asked is none =
-    ap (on_offered_by s e now handle number message) is
+    ap (on_offered s e now handle number message) is
     ∙ ap (moved_on e asked.source (offer_move s now handle number message) (OfferedAs Closed)) none
 
 no_registration : (s : State) (client : Option Client) → offered_by s client None ≡ None
@@ -215,7 +214,7 @@ decided_by_any s e follows rises logged above = record {
   closed = λ now handle number message request asks none.
       offer_closed s e now handle number message (asked_by s request) (offering_is s handle number request asks) none;
   unregistered = λ now handle number message none.
-      ap (on_offered_by s e now handle number message) (offering_none s handle number none);
+      ap (on_offered s e now handle number message) (offering_none s handle number none);
 }
 
 -- ---- the poll
@@ -238,7 +237,7 @@ receiving_is s handle number source request asks =
 -- the poll of a log that is found, under what the registry says and where the subscription stands
 poll_is : (s : State) (e : RunEnd) (now handle number source limit : ℕ) (o : Option LogRequest) (log : WholeLog) →
     receiving_of s handle number source ≡ o → log_at e.logs source ≡ Some log →
-    moved_seen s e (Poll now handle number source limit)
+    moved_by s e (Poll now handle number source limit)
     ≡ left_by e source (poll_under number limit log o (position_in log.whole number))
 unfolding poll_move
 poll_is s e now handle number source limit o log is found =
@@ -267,7 +266,7 @@ poll_denied e number source limit at asked log found denies =
 
 poll_there : (s : State) (e : RunEnd) (now handle number source limit at : ℕ) (request : PollRequest) (log : WholeLog) →
     AsksToPoll s handle number source request → log_at e.logs source ≡ Some log → position_in log.whole number ≡ Some at →
-    PollIsDecidedBy s e number limit request log (moved_seen s e (Poll now handle number source limit))
+    PollIsDecidedBy s e number limit request log (moved_by s e (Poll now handle number source limit))
 poll_there s e now handle number source limit at request log asks found place =
     let asked : LogRequest = polled_by s source request in
     let is =
@@ -285,7 +284,7 @@ unread_stays e number source limit None log found = stays_left e source log IsGo
 unread_stays e number source limit (Some asked) log found = stays_left e source log IsGone found
 
 poll_closed : (s : State) (e : RunEnd) (now handle number source limit : ℕ) → log_at e.logs source ≡ None →
-    moved_seen s e (Poll now handle number source limit) ≡ stays e IsGone
+    moved_by s e (Poll now handle number source limit) ≡ stays e IsGone
 unfolding on_log
 poll_closed s e now handle number source limit none = ap (moved_on e source (poll_move s handle number limit) IsGone) none
 

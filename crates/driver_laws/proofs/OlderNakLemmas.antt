@@ -1,20 +1,20 @@
 -- NAKs by any registry of a run.
 use Rattle.std.proofs.Common.{◌≡◌, ℕ, ℤ, ◌<◌, ◌==◌, true, false, List, [], ◌∷◌, take, Contains, Option, Some, None, Result, Ok, Err, ⊎_elim, refl, sym, ap, subst, ◌∙◌, arith}
 use Rattle.std.proofs.lemmas.Bool.{and_parts, eqb-true}
-use Rattle.any_log.specs.declared.asking.NakReply.{NakReply}
-use Rattle.any_log.specs.declared.asking.NakReply.TheVariants as replies
-use Rattle.any_log.specs.Asking.{gate_behind, nak_reply, reply_by}
-use Rattle.any_log.specs.Whole.{AnyWhole, whole, made_for as made_any}
+use Rattle.log_traffic.specs.declared.asking.NakReply.{NakReply}
+use Rattle.log_traffic.specs.declared.asking.NakReply.TheVariants as replies
+use Rattle.log_traffic.specs.Asking.{gate_behind, nak_reply, reply_by}
+use Rattle.log_traffic.specs.Whole.{AnyWhole, whole, made_for as made_any}
 use Rattle.channel_uri.specs.declared.address.Address.{Address}
-use Rattle.driver_core.specs.declared.event.Event.{Event}
-use Rattle.driver_core.specs.declared.event.Event.TheVariants.{Setup as SetUp}
-use Rattle.driver_core.specs.declared.event.Inputs.{Inputs}
-use Rattle.driver_core.specs.declared.image_request.Astray.{Astray as Astray'}
-use Rattle.driver_core.specs.declared.outcome.Outcome.{Outcome}
-use Rattle.driver_core.specs.declared.outcome.Response.{Response}
-use Rattle.driver_core.specs.declared.outcome.Response.TheVariants as response
-use Rattle.driver_core.specs.declared.replies.Message.{Message}
-use Rattle.driver_core.specs.declared.settings.Settings.{Settings}
+use Rattle.driver_core.specs.declared.state.event.Event.{Event}
+use Rattle.driver_core.specs.declared.state.event.Event.TheVariants.{Setup as SetUp}
+use Rattle.driver_core.specs.declared.state.event.Inputs.{Inputs}
+use Rattle.driver_core.specs.declared.asked.image_request.Astray.{Astray as Astray'}
+use Rattle.driver_core.specs.declared.state.outcome.Outcome.{Outcome}
+use Rattle.driver_core.specs.declared.state.outcome.Response.{Response}
+use Rattle.driver_core.specs.declared.state.outcome.Response.TheVariants as response
+use Rattle.driver_core.specs.declared.state.replies.Message.{Message}
+use Rattle.driver_core.specs.declared.state.settings.Settings.{Settings}
 use Rattle.driver_core.specs.Conduct.{conduct}
 use Rattle.driver_core.specs.PublicationRequests.{is_sent_as, joining_of, publication_at, resend_decision, resending_of, resent_by}
 use Rattle.driver_core.specs.State.{State}
@@ -26,22 +26,21 @@ use Rattle.driver_laws.proofs.LoggedLemmas.{found_in}
 use Rattle.driver_laws.proofs.NumberLemmas.{are_drawn, numbers_rise}
 use Rattle.driver_laws.proofs.OlderLemmas.{above_of, row_of, same_published}
 use Rattle.driver_laws.proofs.RisingLemmas.{rises_unique}
-use Rattle.driver_steps.specs.declared.answer.Answer.{Answer}
-use Rattle.driver_steps.specs.declared.answer.Answer.TheVariants.{Dropped, Resent}
-use Rattle.driver_steps.specs.declared.cause.Cause.TheVariants.{Denied}
+use Rattle.log_steps.specs.declared.answer.Answer.{Answer}
+use Rattle.log_steps.specs.declared.answer.Answer.TheVariants.{Dropped, Resent}
+use Rattle.log_steps.specs.declared.cause.Cause.TheVariants.{Denied}
 use Rattle.driver_steps.specs.declared.step.Step.TheVariants.{Packet}
-use Rattle.driver_steps.specs.Answers.{answered_by, answer_of}
-use Rattle.driver_steps.specs.Ends.{RunEnd, conducted, inputs_of, log_at, moved_on, on_asked, on_image, on_log, on_told, opening_end}
-use Rattle.driver_core.specs.declared.publication_request.JoinRequest.{JoinRequest}
-use Rattle.driver_steps.proofs.HearingLemmas.{status_told}
-use Rattle.driver_steps.specs.Hearing.{answer_asked, answer_heard, nak_move, status_move}
-use Rattle.driver_steps.specs.Idents.{made_of}
+use Rattle.log_steps.specs.Answers.{answered_by, answer_of}
+use Rattle.driver_steps.specs.Ends.{conducted, image_by, inputs_of, log_at, moved_by, moved_on, on_asked, on_image, on_log, on_packet, on_told, opening_end, RunEnd}
+use Rattle.driver_core.specs.declared.asked.publication_request.JoinRequest.{JoinRequest}
+use Rattle.log_steps.proofs.HearingLemmas.{status_told}
+use Rattle.log_steps.specs.Hearing.{answer_asked, answer_heard, nak_move, status_move}
+use Rattle.log_steps.specs.Idents.{made_of}
 use Rattle.driver_steps.specs.Laws.{LogsFollow, stays, taken_from}
-use Rattle.driver_steps.specs.Moves.{Move, WholeLog, answered}
-use Rattle.driver_steps.specs.Receiving.{beat_move, receive_move, unheard}
+use Rattle.log_steps.specs.Moves.{Move, WholeLog, answered}
+use Rattle.log_steps.specs.Receiving.{beat_move, receive_move, unheard}
 use Rattle.driver_steps.specs.ResendLaws.{resend_question}
 use Rattle.driver_steps.specs.Runs.{end_of}
-use Rattle.driver_steps.specs.Seen.{image_seen, moved_seen, packet_seen}
 use Rattle.driver_steps.proofs.DecisionLemmas.{IsAppended, IsForPublication, appended_for, left_by, log_moves, made_at, published_made, stays_left}
 use Rattle.driver_steps.proofs.FollowLemmas.{logs_follow}
 use Rattle.driver_steps.proofs.FoundLemmas.{found_source}
@@ -50,19 +49,19 @@ use Rattle.frame_codec.specs.declared.nak.Nak.{Nak}
 use Rattle.frame_codec.specs.declared.status_message.StatusMessage.{StatusMessage}
 use Rattle.frame_codec.specs.Datagram.{Content, frames, beat, nak, status, setup, packet_of}
 use Rattle.policy_core.specs.declared.decision.Decision.{Decision}
-use Rattle.publication_sender.specs.declared.hearing.StatusAnswer.{StatusAnswer}
-use Rattle.publication_sender.specs.declared.hearing.StatusAnswer.TheVariants as heard
-use Rattle.publication_sender.specs.Resending.{asking_in, gate_after}
+use Rattle.log_traffic.specs.declared.hearing.StatusAnswer.{StatusAnswer}
+use Rattle.log_traffic.specs.declared.hearing.StatusAnswer.TheVariants as heard
+use Rattle.log_traffic.specs.Resending.{asking_in, gate_after}
 use Rattle.retransmit_gate.specs.declared.answer.Answer.{Answer as Word}
 use Rattle.retransmit_gate.specs.declared.answer.Answer.TheVariants as words
 use Rattle.retransmit_gate.specs.ResendLaws.{answer_to}
-use Rattle.stream_registry.specs.declared.row.Source.{Source}
+use Rattle.stream_registry.specs.declared.row.LogRow.{LogRow}
 use Rattle.stream_registry.specs.Origins.{is_published}
 use Rattle.term_log.specs.Whole.{Whole}
 
 -- ---- the log of the publication
 
-sent_published : (session stream : ℤ) (log : Source) → is_sent_as session stream log ≡ true → is_published log ≡ true
+sent_published : (session stream : ℤ) (log : LogRow) → is_sent_as session stream log ≡ true → is_published log ≡ true
 sent_published session stream log is =
     let first = and_parts _ _ is in
     let second = and_parts _ _ first.0 in
@@ -70,31 +69,31 @@ sent_published session stream log is =
     third.0
 
 -- whatever log has the number of a publication is that publication
-still_published : (s after : State) → AreRising s → ComesAbove s after → (publication row : Source) →
+still_published : (s after : State) → AreRising s → ComesAbove s after → (publication row : LogRow) →
     Contains s.streams.sources publication → is_published publication ≡ true → Contains after.streams.sources row →
     row.number ≡ publication.number → is_published row ≡ true
 still_published s after rises above publication row has published stands number =
     ⊎_elim
     (λ (was : WasLive s.streams row).
-    let same : was.before.number ≡ publication.number = sym (ap (λ (one : Source). one.number) was.same) ∙ number in
+    let same : was.before.number ≡ publication.number = sym (ap (λ (one : LogRow). one.number) was.same) ∙ number in
     let one : was.before ≡ publication =
-    rises_unique (λ (one : Source). one.number) 0 s.last_number s.streams.sources was.before publication rises.sources was.stood has same in
-    same_published row was.before was.same ∙ ap (λ (l : Source). is_published l) one ∙ published)
+    rises_unique (λ (one : LogRow). one.number) 0 s.last_number s.streams.sources was.before publication rises.sources was.stood has same in
+    same_published row was.before was.same ∙ ap (λ (l : LogRow). is_published l) one ∙ published)
     (λ (new : s.last_number < row.number).
     let drawn = (are_drawn s rises).sources publication has in
     absurd (omega (arith, new, number, drawn.below)))
     (above.sources row stands)
 
 appended_at : (s : State) (e : RunEnd) → LogsFollow e → AreRising s → ComesAbove s e.registry →
-    (session stream : ℤ) (publication : Source) (log : WholeLog) → publication_at s session stream ≡ Some publication →
+    (session stream : ℤ) (publication : LogRow) (log : WholeLog) → publication_at s session stream ≡ Some publication →
     log_at e.logs publication.number ≡ Some log → IsAppended log
 appended_at s e follows rises above session stream publication log is found =
     let settings : Settings = e.registry.settings in
-    let sources : List Source = e.registry.streams.sources in
+    let sources : List LogRow = e.registry.streams.sources in
     let n : ℕ = publication.number in
     let here = found_in (is_sent_as session stream) s.streams.sources publication is in
     let row = row_of settings e.logs sources n log follows.made found in
-    let at = found_in (λ (one : Source). one.number == n) sources row.0 row.1 in
+    let at = found_in (λ (one : LogRow). one.number == n) sources row.0 row.1 in
     let published =
     still_published s e.registry rises above publication row.0 here.stands (sent_published session stream publication here.passes) at.stands
     (eqb-true row.0.number n at.passes) in
@@ -126,25 +125,25 @@ denied_move : (now : ℕ) (from : Address) (decision : Decision) (fields : Nak) 
     move_on now from decision fields log (whole w) ≡ answered log (Dropped (Denied decision.verdict))
 denied_move now from decision fields log w denies = rw denies refl
 
-asked_is : (s : State) (e : RunEnd) (now : ℕ) (local from : Address) (bytes : List ℕ) (fields : Nak) (o : Option Source) →
+asked_is : (s : State) (e : RunEnd) (now : ℕ) (local from : Address) (bytes : List ℕ) (fields : Nak) (o : Option LogRow) →
     packet_of bytes ≡ Ok (nak fields) → publication_at s fields.session_id fields.stream_id ≡ o →
-    moved_seen s e (Packet now local from bytes) ≡ on_asked e now from fields (resent_by s from o)
+    moved_by s e (Packet now local from bytes) ≡ on_asked e now from fields (resent_by s from o)
 unfolding resending_of
 asked_is s e now local from bytes fields o read is =
-    ap (packet_seen s e now local from) read ∙ ap (λ (p : Option Source). on_asked e now from fields (resent_by s from p)) is
+    ap (on_packet s e now local from) read ∙ ap (λ (p : Option LogRow). on_asked e now from fields (resent_by s from p)) is
 
 nak_there : (s : State) (e : RunEnd) → LogsFollow e → AreRising s → ComesAbove s e.registry →
-    (now : ℕ) (local from : Address) (bytes : List ℕ) (fields : Nak) (publication : Source) (log : WholeLog) →
+    (now : ℕ) (local from : Address) (bytes : List ℕ) (fields : Nak) (publication : LogRow) (log : WholeLog) →
     packet_of bytes ≡ Ok (nak fields) → publication_at s fields.session_id fields.stream_id ≡ Some publication →
     log_at e.logs publication.number ≡ Some log →
     (frames : Whole)
     × (log.whole ≡ whole frames)
-    × NakIsDecidedBy s e now from fields publication log frames (moved_seen s e (Packet now local from bytes))
+    × NakIsDecidedBy s e now from fields publication log frames (moved_by s e (Packet now local from bytes))
 nak_there s e follows rises above now local from bytes fields publication log read is found =
     let decision : Decision = resend_decision s from publication in
     let n : ℕ = publication.number in
     let of = appended_at s e follows rises above fields.session_id fields.stream_id publication log is found in
-    let moves : moved_seen s e (Packet now local from bytes) ≡ left_by e n (move_on now from decision fields log (whole of.0)) =
+    let moves : moved_by s e (Packet now local from bytes) ≡ left_by e n (move_on now from decision fields log (whole of.0)) =
     asked_is s e now local from bytes fields (Some publication) read is
     ∙ log_moves e n (nak_move now from decision fields) unheard log found
     ∙ ap (λ (w : AnyWhole). left_by e n (move_on now from decision fields log w)) of.1 in (
@@ -163,9 +162,9 @@ nak_there s e follows rises above now local from bytes fields publication log re
       },
     )
 
-nak_closed : (s : State) (e : RunEnd) (now : ℕ) (local from : Address) (bytes : List ℕ) (fields : Nak) (publication : Source) →
+nak_closed : (s : State) (e : RunEnd) (now : ℕ) (local from : Address) (bytes : List ℕ) (fields : Nak) (publication : LogRow) →
     packet_of bytes ≡ Ok (nak fields) → publication_at s fields.session_id fields.stream_id ≡ Some publication →
-    log_at e.logs publication.number ≡ None → moved_seen s e (Packet now local from bytes) ≡ stays e unheard
+    log_at e.logs publication.number ≡ None → moved_by s e (Packet now local from bytes) ≡ stays e unheard
 unfolding on_log
 nak_closed s e now local from bytes fields publication read is none =
     asked_is s e now local from bytes fields (Some publication) read is
@@ -246,7 +245,7 @@ logged_to e now source from to decision fields datagrams None is = absurd (cc is
 logged_to e now source from to decision fields datagrams (Some log) is =
     reply_to from to (nak_reply decision now fields log.recovery.gate log.whole) datagrams is
 
-asked_to : (s : State) (e : RunEnd) (now : ℕ) (from to : Address) (fields : Nak) (datagrams : List (List ℕ)) (o : Option Source) →
+asked_to : (s : State) (e : RunEnd) (now : ℕ) (from to : Address) (fields : Nak) (datagrams : List (List ℕ)) (o : Option LogRow) →
     Resent to datagrams ≡ (on_asked e now from fields (resent_by s from o)).answer → to ≡ from
 unfolding on_log
 asked_to s e now from to fields datagrams None is = absurd (cc is)
@@ -261,16 +260,16 @@ none_other : (from to : Address) (read : Result Content BadPacket) (datagrams : 
 none_other from to read datagrams answer other is = absurd (subst IsOther (sym is) other)
 
 only_asked : (s : State) (e : RunEnd) (now : ℕ) (local from to : Address) (datagrams : List (List ℕ)) (read : Result Content BadPacket) →
-    Resent to datagrams ≡ (packet_seen s e now local from read).answer → IsAsked from read to
+    Resent to datagrams ≡ (on_packet s e now local from read).answer → IsAsked from read to
 unfolding resending_of
 only_asked s e now local from to datagrams (Err fault) is = absurd (cc is)
 only_asked s e now local from to datagrams (Ok (frames [])) is = absurd (cc is)
 only_asked s e now local from to datagrams (Ok (frames (frame ∷ later))) is =
     none_other from to (Ok (frames (frame ∷ later))) datagrams _
-    (image_other e (receive_move now (frame ∷ later)) (image_seen s e local from frame.header.place) (λ log. tt)) is
+    (image_other e (receive_move now (frame ∷ later)) (image_by s e local from frame.header.place) (λ log. tt)) is
 only_asked s e now local from to datagrams (Ok (beat header)) is =
     none_other from to (Ok (beat header)) datagrams _
-    (image_other e (beat_move now header.place) (image_seen s e local from header.place) (λ log. tt)) is
+    (image_other e (beat_move now header.place) (image_by s e local from header.place) (λ log. tt)) is
 only_asked s e now local from to datagrams (Ok (setup fields)) is =
     none_other from to (Ok (setup fields)) datagrams _ (event_other e (SetUp now local from fields)) is
 only_asked s e now local from to datagrams (Ok (nak fields)) is =

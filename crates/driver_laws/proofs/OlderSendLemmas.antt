@@ -2,15 +2,15 @@
 use Rattle.std.proofs.Common.{◌≡◌, ℕ, ◌<◌, ◌==◌, Bool, true, cond, List, take, Option, Some, None, ⊎_elim, refl, sym, ap, ◌∙◌, arith}
 use Rattle.std.proofs.lemmas.Bool.{and_parts, eqb-true}
 use Rattle.std.specs.Option.{is_some, option_map}
-use Rattle.any_log.specs.Held.{for_publication}
-use Rattle.any_log.specs.Sending.{after_turn, turn_of}
-use Rattle.any_log.specs.Whole.{AnyWhole, whole, rebuilt, made_for as made_any}
+use Rattle.log_traffic.specs.Held.{for_publication}
+use Rattle.log_traffic.specs.Sending.{after_turn, turn_of}
+use Rattle.log_traffic.specs.Whole.{AnyWhole, whole, rebuilt, made_for as made_any}
 use Rattle.channel_uri.specs.declared.media.Media.{Media}
 use Rattle.channel_uri.specs.declared.media.Media.TheVariants.{Udp, Ipc, Counter}
-use Rattle.driver_core.specs.declared.event.Event.{Event}
-use Rattle.driver_core.specs.declared.event.Inputs.{Inputs}
-use Rattle.driver_core.specs.declared.send_request.Outlet.{Outlet}
-use Rattle.driver_core.specs.declared.settings.Settings.{Settings}
+use Rattle.driver_core.specs.declared.state.event.Event.{Event}
+use Rattle.driver_core.specs.declared.state.event.Inputs.{Inputs}
+use Rattle.driver_core.specs.declared.asked.send_request.Outlet.{Outlet}
+use Rattle.driver_core.specs.declared.state.settings.Settings.{Settings}
 use Rattle.driver_core.specs.Renewal.{source_at}
 use Rattle.driver_core.specs.SendRequests.{is_sent, lingers_by, outlets_by, outlets_of, sending_of}
 use Rattle.driver_core.specs.State.{State}
@@ -22,27 +22,26 @@ use Rattle.driver_laws.proofs.LoggedLemmas.{found_in}
 use Rattle.driver_laws.proofs.NumberLemmas.{are_drawn, numbers_rise}
 use Rattle.driver_laws.proofs.OlderLemmas.{above_of, row_of, same_published}
 use Rattle.driver_laws.proofs.RisingLemmas.{rises_unique}
-use Rattle.driver_steps.specs.declared.answer.Answer.TheVariants.{Gone, Idle, Sent}
+use Rattle.log_steps.specs.declared.answer.Answer.TheVariants.{Gone, Idle, Sent}
 use Rattle.driver_steps.specs.declared.step.Step.TheVariants.{Send}
-use Rattle.driver_steps.specs.Ends.{RunEnd, log_at, moved_on, on_log, opening_end}
-use Rattle.driver_steps.specs.Idents.{ident_of, kind_over, made_by, made_of}
+use Rattle.driver_steps.specs.Ends.{log_at, moved_by, moved_on, on_log, opening_end, RunEnd}
+use Rattle.log_steps.specs.Idents.{ident_of, kind_over, made_by, made_of}
 use Rattle.driver_steps.specs.Laws.{LogsFollow, stays, taken_from}
-use Rattle.driver_steps.specs.Moves.{Move, WholeLog}
+use Rattle.log_steps.specs.Moves.{Move, WholeLog}
 use Rattle.driver_steps.specs.Runs.{end_of}
-use Rattle.driver_steps.specs.Seen.{moved_seen}
-use Rattle.driver_steps.specs.Sending.{answer_sent, expired, pace_of, send_by, send_move, standing_of}
+use Rattle.log_steps.specs.Sending.{answer_sent, expired, pace_of, send_by, send_move, standing_of}
 use Rattle.driver_steps.proofs.SendLawLemmas.{outlets_learnt, outlets_named}
 use Rattle.learnt_addresses.specs.declared.learnt_address.LearntAddress.{LearntAddress}
 use Rattle.driver_steps.specs.SendLaws.{learnt_question, send_question}
 use Rattle.driver_steps.proofs.DecisionLemmas.{left_by, log_moves, made_at, stays_left}
 use Rattle.driver_steps.proofs.FollowLemmas.{logs_follow}
 use Rattle.driver_steps.proofs.FoundLemmas.{found_source}
-use Rattle.publication_sender.specs.declared.cutting.DatagramKind.{DatagramKind}
-use Rattle.publication_sender.specs.declared.cutting.Pace.{Pace}
-use Rattle.publication_sender.specs.Cutting.{after_due, bytes_as, cut_of, datagram_of, due_of}
+use Rattle.log_traffic.specs.declared.cutting.DatagramKind.{DatagramKind}
+use Rattle.log_traffic.specs.declared.cutting.Pace.{Pace}
+use Rattle.log_traffic.specs.Cutting.{after_due, bytes_as, cut_of, datagram_of, due_of}
 use Rattle.stream_registry.specs.declared.row.Origin.{Origin}
 use Rattle.stream_registry.specs.declared.row.Origin.TheVariants.{Published, Remote}
-use Rattle.stream_registry.specs.declared.row.Source.{Source}
+use Rattle.stream_registry.specs.declared.row.LogRow.{LogRow}
 use Rattle.stream_registry.specs.Origins.{is_published, is_published_by, lingering_since}
 use Rattle.stream_registry.specs.Places.{is_udp as is_udp_media}
 use Rattle.term_log.specs.declared.ident.Ident.{Ident}
@@ -60,7 +59,7 @@ same_ident : (i j : Ident) → for_publication i ≡ for_publication j → i ≡
 same_ident i j is = cc is
 
 -- it is one of frames that were appended, of that kind
-sent_made : (settings : Settings) (log : Source) (origin : Origin) (w : AnyWhole) → is_published_by origin ≡ true →
+sent_made : (settings : Settings) (log : LogRow) (origin : Origin) (w : AnyWhole) → is_published_by origin ≡ true →
     made_any w ≡ made_by settings log origin → is_udp_media log.channel.media ≡ true →
     (frames : Whole) × (w ≡ whole frames) × (is_udp frames.ident.kind ≡ true)
 sent_made settings log (Published exclusive since) (whole frames) published made udp =
@@ -70,12 +69,12 @@ sent_made settings log (Remote address initial_term join) w published made udp =
 
 -- ---- what the registry says
 
-lets : (s : State) (source : ℕ) (publication : Source) → source_at s.streams.sources source ≡ Some publication →
+lets : (s : State) (source : ℕ) (publication : LogRow) → source_at s.streams.sources source ≡ Some publication →
     is_sent publication ≡ true → sending_of s source ≡ Some (is_some (lingering_since publication))
 unfolding sending_of
 lets s source publication is sends = ap lingers_by is ∙ ap (λ (b : Bool). cond b (Some (is_some (lingering_since publication))) None) sends
 
-goes : (s : State) (source : ℕ) (publication : Source) → source_at s.streams.sources source ≡ Some publication →
+goes : (s : State) (source : ℕ) (publication : LogRow) → source_at s.streams.sources source ≡ Some publication →
     (learnt : List LearntAddress) → outlets_of s learnt source ≡ outlets_by s learnt (Some publication)
 unfolding outlets_of
 goes s source publication is learnt = ap (outlets_by s learnt) is
@@ -151,27 +150,27 @@ turn_sent s e now source lingers log frames outlets bytes found some =
 
 -- ---- the publication that it is now
 
-record IsStill (publication row : Source) : Type 0 where
+record IsStill (publication row : LogRow) : Type 0 where
   published : is_published row ≡ is_published publication
   media : row.channel.media ≡ publication.channel.media
 
 -- whatever log has its number is that publication
-still : (s after : State) → AreRising s → ComesAbove s after → (source : ℕ) (publication row : Source) →
+still : (s after : State) → AreRising s → ComesAbove s after → (source : ℕ) (publication row : LogRow) →
     source_at s.streams.sources source ≡ Some publication → source_at after.streams.sources source ≡ Some row → IsStill publication row
 still s after rises above source publication row is now =
-    let here = found_in (λ (one : Source). one.number == source) s.streams.sources publication is in
-    let there = found_in (λ (one : Source). one.number == source) after.streams.sources row now in
+    let here = found_in (λ (one : LogRow). one.number == source) s.streams.sources publication is in
+    let there = found_in (λ (one : LogRow). one.number == source) after.streams.sources row now in
     let number : publication.number ≡ source = eqb-true publication.number source here.passes in
     let same_number : row.number ≡ source = eqb-true row.number source there.passes in
     ⊎_elim
     (λ (was : WasLive s.streams row).
-    let alike : row.number ≡ was.before.number = ap (λ (one : Source). one.number) was.same in
+    let alike : row.number ≡ was.before.number = ap (λ (one : LogRow). one.number) was.same in
     let same : was.before.number ≡ publication.number = sym alike ∙ same_number ∙ sym number in
     let one : was.before ≡ publication =
-    rises_unique (λ (one : Source). one.number) 0 s.last_number s.streams.sources was.before publication rises.sources was.stood here.stands same in
+    rises_unique (λ (one : LogRow). one.number) 0 s.last_number s.streams.sources was.before publication rises.sources was.stood here.stands same in
     record {
-      published = same_published row was.before was.same ∙ ap (λ (l : Source). is_published l) one;
-      media = ap (λ (l : Source). l.channel.media) was.same ∙ ap (λ (l : Source). l.channel.media) one;
+      published = same_published row was.before was.same ∙ ap (λ (l : LogRow). is_published l) one;
+      media = ap (λ (l : LogRow). l.channel.media) was.same ∙ ap (λ (l : LogRow). l.channel.media) one;
     })
     (λ (new : s.last_number < row.number).
     let drawn = (are_drawn s rises).sources publication here.stands in
@@ -179,9 +178,9 @@ still s after rises above source publication row is now =
     (above.sources row there.stands)
 
 send_there : (s : State) (e : RunEnd) → LogsFollow e → AreRising s → ComesAbove s e.registry →
-    (now source : ℕ) (publication : Source) (log : WholeLog) →
+    (now source : ℕ) (publication : LogRow) (log : WholeLog) →
     source_at s.streams.sources source ≡ Some publication → is_sent publication ≡ true → log_at e.logs source ≡ Some log →
-    (frames : Whole) × (log.whole ≡ whole frames) × SendIsDecidedBy s e now publication log frames (moved_seen s e (Send now source))
+    (frames : Whole) × (log.whole ≡ whole frames) × SendIsDecidedBy s e now publication log frames (moved_by s e (Send now source))
 send_there s e follows rises above now source publication log is sends found =
     let settings : Settings = e.registry.settings in
     let lingers : Bool = is_some (lingering_since publication) in
@@ -197,7 +196,7 @@ send_there s e follows rises above now source publication log is sends found =
     let here : log.source ≡ source = found_source source log e.logs found in
     let lets' : sending_of s log.source ≡ Some lingers = ap (sending_of s) here ∙ lets s source publication is sends in
     let goes' : outlets_of s (standing_of s.settings now log) log.source ≡ outlets = ap (outlets_of s learnt) here ∙ goes s source publication is learnt in
-    let moves : moved_seen s e (Send now source) ≡ left_by e source (turned s now lingers log of'.0 outlets) =
+    let moves : moved_by s e (Send now source) ≡ left_by e source (turned s now lingers log of'.0 outlets) =
     log_moves e source (send_move s now) Gone log found
     ∙ ap (left_by e source) (turn_is s now lingers log of'.0 outlets lets' goes' of'.1 of'.2) in (
       of'.0,
@@ -221,7 +220,7 @@ send_gone s e now source (Some log) found none =
     let here : sending_of s log.source ≡ None = ap (sending_of s) (found_source source log e.logs found) ∙ none in
     ap (λ (o : Option Bool). left_by e source (send_by s now log o)) here ∙ stays_left e source log Gone found
 
-send_closed : (s : State) (e : RunEnd) (now source : ℕ) → log_at e.logs source ≡ None → moved_seen s e (Send now source) ≡ stays e Gone
+send_closed : (s : State) (e : RunEnd) (now source : ℕ) → log_at e.logs source ≡ None → moved_by s e (Send now source) ≡ stays e Gone
 unfolding on_log
 send_closed s e now source none = ap (moved_on e source (send_move s now) Gone) none
 

@@ -20,7 +20,7 @@ use Rattle.policy_core.specs.RuleList.{Rules}
 use Rattle.stream_registry.specs.declared.pairs.Pair.{Pair}
 use Rattle.stream_registry.specs.declared.row.Origin.{Origin}
 use Rattle.stream_registry.specs.declared.row.Origin.TheVariants.{Published, Remote}
-use Rattle.stream_registry.specs.declared.row.Source.{Source}
+use Rattle.stream_registry.specs.declared.row.LogRow.{LogRow}
 use Rattle.stream_registry.specs.declared.row.Registration.{Registration}
 use Rattle.stream_registry.specs.declared.row.Subscription.{Subscription}
 use Rattle.stream_registry.specs.Leaving.{is_another_subscription, is_registration_of_another, is_subscription_of_another, left as left_in, unregistered, unsubscribed}
@@ -104,7 +104,7 @@ of_changed parts change (x ∷ xs) same = rw (same x, of_changed parts change xs
 -- ---- the pairs of one log
 
 left_prospects : (clients : List Client) (policy : Rules) (next : List Rules) (epoch : ℕ) (subscriptions : List Subscription) (now : ℕ)
-    (log : Source) (origin : Origin) →
+    (log : LogRow) (origin : Origin) →
     prospects_at clients policy next epoch subscriptions (record log { origin = left_by now origin })
     ≡ prospects_at clients policy next epoch subscriptions (record log { origin = origin })
 unfolding fits reaches
@@ -112,7 +112,7 @@ left_prospects clients policy next epoch subscriptions now log (Published exclus
 left_prospects clients policy next epoch subscriptions now log (Remote address initial_term join) = refl
 
 one_settled : (b : Bool) (clients : List Client) (policy : Rules) (next : List Rules) (epoch : ℕ) (subscriptions : List Subscription) (now : ℕ)
-    (log : Source) →
+    (log : LogRow) →
     prospects_at clients policy next epoch subscriptions (cond b log (left_alone now log))
     ≡ prospects_at clients policy next epoch subscriptions log
 one_settled true clients policy next epoch subscriptions now log = refl
@@ -121,7 +121,7 @@ one_settled false clients policy next epoch subscriptions now log =
 
 -- that a log lingers makes no difference to its pairs
 prospects_settled : (clients : List Client) (policy : Rules) (next : List Rules) (epoch : ℕ) (subscriptions : List Subscription)
-    (registrations : List Registration) (now : ℕ) (logs : List Source) →
+    (registrations : List Registration) (now : ℕ) (logs : List LogRow) →
     flat_map (prospects_at clients policy next epoch subscriptions) (map (settled_one registrations now) logs)
     ≡ flat_map (prospects_at clients policy next epoch subscriptions) logs
 prospects_settled clients policy next epoch subscriptions registrations now logs =
@@ -129,14 +129,14 @@ prospects_settled clients policy next epoch subscriptions registrations now logs
     (λ log. one_settled (is_used registrations log.number) clients policy next epoch subscriptions now log)
 
 readers_counted : (clients : List Client) (policy : Rules) (next : List Rules) (epoch : ℕ) (subscriptions : List Subscription)
-    (log : Source) →
+    (log : LogRow) →
     length (prospects_at clients policy next epoch subscriptions log)
     ≡ length (filter (is_prospect clients policy next epoch log) subscriptions)
 readers_counted clients policy next epoch subscriptions log =
     length-map (filter (is_prospect clients policy next epoch log) subscriptions) (pair_of log)
 
 -- whom the subscription's client acts for decides
-prospect_by : (clients others : List Client) (policy : Rules) (next : List Rules) (epoch : ℕ) (log : Source) (subscription : Subscription) →
+prospect_by : (clients others : List Client) (policy : Rules) (next : List Rules) (epoch : ℕ) (log : LogRow) (subscription : Subscription) →
     principal_at clients subscription.client ≡ principal_at others subscription.client →
     is_prospect clients policy next epoch log subscription ≡ is_prospect others policy next epoch log subscription
 unfolding is_ever_allowed is_allowed
@@ -153,7 +153,7 @@ ActAsBefore clients others subscriptions =
     principal_at clients subscription.client ≡ principal_at others subscription.client
 
 no_more_readers : (clients others : List Client) (policy : Rules) (next : List Rules) (epoch : ℕ) (stays : Subscription → Bool)
-    (subscriptions : List Subscription) (log : Source) → ActAsBefore clients others (filter stays subscriptions) →
+    (subscriptions : List Subscription) (log : LogRow) → ActAsBefore clients others (filter stays subscriptions) →
     length (prospects_at clients policy next epoch (filter stays subscriptions) log)
     ≤ length (prospects_at others policy next epoch subscriptions log)
 no_more_readers clients others policy next epoch stays subscriptions log same =
@@ -167,7 +167,7 @@ no_more_readers clients others policy next epoch stays subscriptions log same =
     omega (arith, some, all, few, fewer)
 
 same_readers : (clients others : List Client) (policy : Rules) (next : List Rules) (epoch : ℕ) (subscriptions : List Subscription)
-    (log : Source) → ActAsBefore clients others subscriptions →
+    (log : LogRow) → ActAsBefore clients others subscriptions →
     length (prospects_at clients policy next epoch subscriptions log) ≤ length (prospects_at others policy next epoch subscriptions log)
 same_readers clients others policy next epoch subscriptions log same =
     let some = readers_counted clients policy next epoch subscriptions log in
@@ -304,7 +304,7 @@ pairs_unregistered s client number now =
     ∙ prospects_unregistered (record s { prospects = [] }) client number now
     ∙ sym (pairs_as s)
 
-pair_is_prospect : (clients : List Client) (policy : Rules) (next : List Rules) (epoch : ℕ) (log : Source)
+pair_is_prospect : (clients : List Client) (policy : Rules) (next : List Rules) (epoch : ℕ) (log : LogRow)
     (subscription : Subscription) → is_pair clients policy epoch log subscription ≡ true →
     is_prospect clients policy next epoch log subscription ≡ true
 unfolding is_ever_allowed
@@ -329,7 +329,7 @@ pairs_are_prospects s =
 
 -- ---- as time goes on
 
-sooner_is_prospect : (clients : List Client) (policy : Rules) (moment later epoch : ℕ) (log : Source)
+sooner_is_prospect : (clients : List Client) (policy : Rules) (moment later epoch : ℕ) (log : LogRow)
     (subscription : Subscription) → moment ≤ later →
     is_prospect clients (at policy later) (coming policy later) epoch log subscription ≡ true →
     is_prospect clients (at policy moment) (coming policy moment) epoch log subscription ≡ true
@@ -339,7 +339,7 @@ sooner_is_prospect clients policy moment later epoch log subscription up is =
     rw (parts.0, sooner_allowed clients policy moment later epoch subscription up parts.1) refl
 
 sooner_readers : (clients : List Client) (policy : Rules) (moment later epoch : ℕ) (subscriptions : List Subscription)
-    (log : Source) → moment ≤ later →
+    (log : LogRow) → moment ≤ later →
     length (prospects_at clients (at policy later) (coming policy later) epoch subscriptions log)
     ≤ length (prospects_at clients (at policy moment) (coming policy moment) epoch subscriptions log)
 sooner_readers clients policy moment later epoch subscriptions log up =

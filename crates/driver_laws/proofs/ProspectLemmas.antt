@@ -11,7 +11,7 @@ use Rattle.client_registry.specs.Clients.{principal_at}
 use Rattle.policy_core.specs.Moments.{at, coming}
 use Rattle.policy_core.specs.RuleList.{Rules}
 use Rattle.stream_registry.specs.declared.pairs.Pair.{Pair}
-use Rattle.stream_registry.specs.declared.row.Source.{Source}
+use Rattle.stream_registry.specs.declared.row.LogRow.{LogRow}
 use Rattle.stream_registry.specs.declared.row.Subscription.{Subscription}
 use Rattle.stream_registry.specs.Pairs.{fits, is_ever_allowed, is_prospect, pair_of, prospects_at, prospects_of as prospects_on}
 use Rattle.driver_core.proofs.ListLemmas.{left_was_there, passes_are_left}
@@ -29,7 +29,7 @@ ever_at s timely subscription =
 
 -- ---- only these
 
-reads_of : (s : State) → IsAtItsMoment s → (log : Source) (subscription : Subscription) → Contains s.streams.sources log →
+reads_of : (s : State) → IsAtItsMoment s → (log : LogRow) (subscription : Subscription) → Contains s.streams.sources log →
     Contains s.streams.subscriptions subscription →
     is_prospect s.clients.rows s.policy s.prospects s.epoch log subscription ≡ true → IsEverReadBy s log subscription
 reads_of s timely log subscription live stands is =
@@ -47,7 +47,7 @@ reads_of s timely log subscription live stands is =
       allowed = one.allowed;
     }
 
-prospects_of_log : (s : State) → IsAtItsMoment s → (log : Source) → Contains s.streams.sources log →
+prospects_of_log : (s : State) → IsAtItsMoment s → (log : LogRow) → Contains s.streams.sources log →
     All (IsOfProspect s) (prospects_at s.clients.rows s.policy s.prospects s.epoch s.streams.subscriptions log)
 prospects_of_log s timely log live =
     let test : Subscription → Bool = is_prospect s.clients.rows s.policy s.prospects s.epoch log in
@@ -79,7 +79,7 @@ counted_only s timely pair has =
 
 -- ---- and each of these
 
-is_counted : (s : State) → IsAtItsMoment s → (log : Source) (subscription : Subscription) → IsEverReadBy s log subscription →
+is_counted : (s : State) → IsAtItsMoment s → (log : LogRow) (subscription : Subscription) → IsEverReadBy s log subscription →
     is_prospect s.clients.rows s.policy s.prospects s.epoch log subscription ≡ true
 is_counted s timely log subscription reads =
     let ever' : is_ever_allowed s.clients.rows s.policy s.prospects s.epoch subscription ≡ true =
@@ -87,7 +87,7 @@ is_counted s timely log subscription reads =
     ∙ of_ever s.clients.rows s.given s.moment s.epoch subscription reads.principal reads.attached reads.allowed in
     rw (reads.fitting, ever') refl
 
-counted_exactly : (s : State) → IsAtItsMoment s → (log : Source) (subscription : Subscription) →
+counted_exactly : (s : State) → IsAtItsMoment s → (log : LogRow) (subscription : Subscription) →
     IsEverReadBy s log subscription → Contains (prospects_of s) (pair_of log subscription)
 unfolding prospects_of prospects_on
 counted_exactly s timely log subscription reads =

@@ -3,11 +3,11 @@ use Rattle.std.proofs.Common.{◌≡◌, ℕ, ◌+◌, ℤ, Bool, true, false, c
 use Rattle.std.specs.List.{AllByRecursion, Contains}
 use Rattle.std.proofs.lemmas.List.Elements.{All-contains, All-contains_itself, All-map, All-weaker, Contains-push, Contains-push_cases}
 use Rattle.driver_core.specs.Directing.{directed, recalled, with_destination, without_destination}
-use Rattle.driver_core.specs.declared.event.Event.{Event}
-use Rattle.driver_core.specs.declared.event.Event.TheVariants.{Attach, Command, Reload, Setup, Tick}
-use Rattle.driver_core.specs.declared.event.Inputs.{Inputs}
-use Rattle.driver_core.specs.declared.outcome.Response.{Response}
-use Rattle.driver_core.specs.declared.refusal.Refusal.{Refusal}
+use Rattle.driver_core.specs.declared.state.event.Event.{Event}
+use Rattle.driver_core.specs.declared.state.event.Event.TheVariants.{Attach, Command, Reload, Setup, Tick}
+use Rattle.driver_core.specs.declared.state.event.Inputs.{Inputs}
+use Rattle.driver_core.specs.declared.state.outcome.Response.{Response}
+use Rattle.driver_core.specs.declared.state.refusal.Refusal.{Refusal}
 use Rattle.driver_core.specs.Attaching.{attached}
 use Rattle.driver_core.specs.Closing.{keep_alive, close}
 use Rattle.driver_core.specs.Commands.{heard, at_request}
@@ -25,9 +25,9 @@ use Rattle.driver_core.specs.Ticking.{closed_past, late, tick, ticked}
 use Rattle.driver_core.specs.Unpublishing.{unpublished}
 use Rattle.driver_core.specs.Unsubscribing.{unsubscribed}
 use Rattle.driver_core.specs.Change.{Change}
-use Rattle.driver_core.specs.declared.replies.Message.{Message}
-use Rattle.driver_core.specs.declared.replies.Reply.{Reply}
-use Rattle.driver_core.specs.declared.replies.Reply.TheVariants.{AvailableImage, ClientTimeout, CounterReady, Error, ExclusivePublicationReady, OperationSuccess, PublicationReady, SubscriptionReady, UnavailableCounter, UnavailableImage}
+use Rattle.driver_core.specs.declared.state.replies.Message.{Message}
+use Rattle.driver_core.specs.declared.state.replies.Reply.{Reply}
+use Rattle.driver_core.specs.declared.state.replies.Reply.TheVariants.{AvailableImage, ClientTimeout, CounterReady, Error, ExclusivePublicationReady, OperationSuccess, PublicationReady, SubscriptionReady, UnavailableCounter, UnavailableImage}
 use Rattle.driver_core.specs.Renewal.{renewed}
 use Rattle.driver_core.specs.SettingUp.{image_made, setting_of, wanted_by as image_wanted_by, with_image}
 use Rattle.driver_core.specs.Unread.{dropping, without_unread}
@@ -39,7 +39,7 @@ use Rattle.client_registry.specs.declared.client.Client.{Client}
 use Rattle.policy_core.specs.declared.decision.Decision.{Decision}
 use Rattle.policy_core.specs.declared.verdict.Verdict.{Verdict}
 use Rattle.policy_core.specs.RuleList.{Rules}
-use Rattle.stream_registry.specs.declared.row.Source.{Source}
+use Rattle.stream_registry.specs.declared.row.LogRow.{LogRow}
 use Rattle.stream_registry.specs.declared.row.Registration.{Registration}
 use Rattle.stream_registry.specs.declared.wanted.Adding.{Adding}
 use Rattle.stream_registry.specs.declared.wanted.Adding.TheVariants.{Join, Make}
@@ -68,23 +68,23 @@ pub record DraftsOnly (s : State) (event : Event) (draft : Draft) : Type 0 where
       (registration : Registration) → Contains draft.after.streams.registrations registration →
       Contains s.streams.registrations registration ⊎ IsRegisteredBy s event registration
   pub logs :
-      (log : Source) → Contains draft.after.streams.sources log →
+      (log : LogRow) → Contains draft.after.streams.sources log →
       WasLive s.streams log ⊎ (IsLogMadeBy s event log ⊎ IsImageMadeBy s event log)
   pub told : AllByRecursion (λ message. IsPublicationTold s event draft.after message.client message.reply) draft.replies
   pub later : AllByRecursion (λ message. IsPublicationTold s event draft.after message.client message.reply) draft.later
 
 -- ---- what was there
 
-is_live : (streams : Streams) (log : Source) → Contains streams.sources log →
+is_live : (streams : Streams) (log : LogRow) → Contains streams.sources log →
     WasLive streams log
 is_live streams log has = record { before = log; stood = has; same = refl }
 
 -- a log that lingers from now on is the same else
-same_settled : (b : Bool) (now : ℕ) (log : Source) → IsSameLog (cond b log (left_alone now log)) log
+same_settled : (b : Bool) (now : ℕ) (log : LogRow) → IsSameLog (cond b log (left_alone now log)) log
 same_settled true now log = refl
 same_settled false now log = same_but_alone now log
 
-settled_was_live : (streams : Streams) (registrations : List Registration) (now : ℕ) (log : Source) →
+settled_was_live : (streams : Streams) (registrations : List Registration) (now : ℕ) (log : LogRow) →
     Contains (map (settled_one registrations now) streams.sources) log → WasLive streams log
 settled_was_live streams registrations now log has =
     let settle = settled_one registrations now in
@@ -142,7 +142,7 @@ added_at_the_end s client wanted place (Make session) = refl
 added_log : (s : State) (event : Event) (client : ℕ) (wanted : Wanted) (place : ℕ) (adding : Adding) →
     ((session : ℤ) → adding ≡ Make session →
     IsLogMadeBy s event (log_of s.streams (s.last_number + 1) wanted place session)) →
-    (log : Source) →
+    (log : LogRow) →
     Contains (added s.streams (s.last_number + 1) client wanted place adding).sources log →
     WasLive s.streams log ⊎ (IsLogMadeBy s event log ⊎ IsImageMadeBy s event log)
 added_log s event client wanted place (Join source session) by log has = inl (is_live s.streams log has)
@@ -216,12 +216,12 @@ left_was_registered s [] registration has = has
 left_was_registered s (client ∷ clients) registration has =
     one_left_was_registered s client registration (left_was_registered (left s client) clients registration has)
 
-one_left_was_live : (s : State) (client : ℕ) (log : Source) →
+one_left_was_live : (s : State) (client : ℕ) (log : LogRow) →
     Contains (left s client).streams.sources log → WasLive s.streams log
 unfolding left left_in settled
 one_left_was_live s client log has = settled_was_live s.streams _ s.moment log has
 
-left_was_live : (s : State) (clients : List ℕ) (log : Source) →
+left_was_live : (s : State) (clients : List ℕ) (log : LogRow) →
     Contains (all_left s clients).streams.sources log → WasLive s.streams log
 left_was_live s [] log has = is_live s.streams log has
 left_was_live s (client ∷ clients) log has =
@@ -447,7 +447,7 @@ registrations_stay : (s : State) → (without_unread s).streams.registrations �
 unfolding without_unread without_unread_in
 registrations_stay s = refl
 
-logs_were : (s : State) (log : Source) → Contains (without_unread s).streams.sources log → Contains s.streams.sources log
+logs_were : (s : State) (log : LogRow) → Contains (without_unread s).streams.sources log → Contains s.streams.sources log
 unfolding without_unread without_unread_in
 logs_were s log has = left_was_there (is_kept _) s.streams.sources log has
 

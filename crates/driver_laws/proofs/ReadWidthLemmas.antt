@@ -28,7 +28,7 @@ use Rattle.command_codec.specs.Removal.{removal_of}
 use Rattle.command_codec.specs.SetCounter.{set_counter_of}
 use Rattle.command_codec.specs.TerminateDriver.{terminate_driver_of}
 use Rattle.command_codec.proofs.FieldLemmas.{bind_ok, ended_takes, made_from, ok_is, step, was_some}
-use Rattle.stream_registry.specs.declared.row.Source.{Source}
+use Rattle.stream_registry.specs.declared.row.LogRow.{LogRow}
 use Rattle.stream_registry.specs.Adding.{session_of}
 use Rattle.stream_registry.specs.Sessions.{after, free_from, free_session, is_taken}
 use Rattle.stream_registry.specs.Streams.{Streams}
@@ -205,7 +205,7 @@ stated_fits channel session is = value_fits _ session is
 pub after_fits : (session : ℤ) → FitsSigned w32 (after session)
 after_fits session = sfits_to_z (record { fits = omega arith })
 
-free_fits : (others logs : List Source) (session : ℤ) → FitsSigned w32 session → FitsSigned w32 (free_from others logs session)
+free_fits : (others logs : List LogRow) (session : ℤ) → FitsSigned w32 session → FitsSigned w32 (free_from others logs session)
 free_fits [] logs session fits = fits
 free_fits (other ∷ others) logs session fits =
     cond_both (is_taken logs session) (free_from others logs (after session)) session (FitsSigned w32)

@@ -4,13 +4,13 @@ use Rattle.std.proofs.lemmas.Bool.{cases_Bool, eq-eqb, not-true}
 use Rattle.std.proofs.lemmas.List.{append-nil}
 use Rattle.std.specs.List.{AllByRecursion, Contains, filter, list_any}
 use Rattle.driver_core.specs.Directing.{directed, recalled, with_destination, without_destination}
-use Rattle.driver_core.specs.declared.event.Event.{Event}
-use Rattle.driver_core.specs.declared.event.Event.TheVariants.{Attach, Command, Reload, Setup, Tick}
-use Rattle.driver_core.specs.declared.event.Inputs.{Inputs}
-use Rattle.driver_core.specs.declared.outcome.Response.{Response}
-use Rattle.driver_core.specs.declared.refusal.Refusal.{Refusal}
-use Rattle.driver_core.specs.declared.replies.Message.{Message}
-use Rattle.driver_core.specs.declared.replies.Reply.{Reply}
+use Rattle.driver_core.specs.declared.state.event.Event.{Event}
+use Rattle.driver_core.specs.declared.state.event.Event.TheVariants.{Attach, Command, Reload, Setup, Tick}
+use Rattle.driver_core.specs.declared.state.event.Inputs.{Inputs}
+use Rattle.driver_core.specs.declared.state.outcome.Response.{Response}
+use Rattle.driver_core.specs.declared.state.refusal.Refusal.{Refusal}
+use Rattle.driver_core.specs.declared.state.replies.Message.{Message}
+use Rattle.driver_core.specs.declared.state.replies.Reply.{Reply}
 use Rattle.driver_core.specs.Attaching.{attached}
 use Rattle.driver_core.specs.Closing.{keep_alive, close}
 use Rattle.driver_core.specs.Commands.{heard}
@@ -38,7 +38,7 @@ use Rattle.command_codec.specs.declared.set_counter.SetCounter.{SetCounter}
 use Rattle.policy_core.specs.declared.decision.Decision.{Decision}
 use Rattle.policy_core.specs.RuleList.{Rules}
 use Rattle.stream_registry.specs.declared.pairs.Pair.{Pair}
-use Rattle.stream_registry.specs.declared.row.Source.{Source}
+use Rattle.stream_registry.specs.declared.row.LogRow.{LogRow}
 use Rattle.stream_registry.specs.declared.wanted.Adding.{Adding}
 use Rattle.stream_registry.specs.Lingering.{closed, closing_of, is_closing, place_of, stays_live}
 use Rattle.stream_registry.specs.Streams.{Streams}
@@ -58,12 +58,12 @@ use Rattle.driver_core.proofs.EventCases.{Cases, attach_cases, command_cases, re
 
 -- ---- where no log closes, the lists stay
 
-live_yet : (streams : Streams) (now : ℕ) (silent : List ℕ) (log : Source) → Contains streams.sources log →
+live_yet : (streams : Streams) (now : ℕ) (silent : List ℕ) (log : LogRow) → Contains streams.sources log →
     is_left (map place_of (filter (is_closing now silent) streams.sources)) log ≡ true → stays_live now silent log ≡ true
 live_yet streams now silent log has stays =
     ⊎_elim
     (λ closes.
-    let goes : List Source = filter (is_closing now silent) streams.sources in
+    let goes : List LogRow = filter (is_closing now silent) streams.sources in
     let told : list_any (λ (closed : LogPlace). closed.source == log.number) (map place_of goes) ≡ true =
     is_any (λ (closed : LogPlace). closed.source == log.number) (map place_of goes) (place_of log)
     (is_mapped place_of goes log (passes_are_left (is_closing now silent) streams.sources log closes has))
@@ -74,20 +74,20 @@ live_yet streams now silent log has stays =
     (cases_Bool (is_closing now silent log))
 
 none_closed : (streams : Streams) (now : ℕ) (silent : List ℕ) →
-    ((log : Source) → Contains streams.sources log → is_left (closing_of streams now silent) log ≡ true) →
+    ((log : LogRow) → Contains streams.sources log → is_left (closing_of streams now silent) log ≡ true) →
     closed streams now silent ≡ streams
 unfolding closing_of closed
 none_closed streams now silent stays =
-    ap (λ (logs : List Source). record streams { sources = logs })
+    ap (λ (logs : List LogRow). record streams { sources = logs })
     (all_pass (stays_live now silent) streams.sources
     (λ log has. live_yet streams now silent log has (stays log has)))
 
 none_closing : (streams : Streams) (now : ℕ) (silent : List ℕ) →
-    ((log : Source) → Contains streams.sources log → is_left (closing_of streams now silent) log ≡ true) →
+    ((log : LogRow) → Contains streams.sources log → is_left (closing_of streams now silent) log ≡ true) →
     numbers_of_closing now silent streams.sources ≡ []
 unfolding closing_of
 none_closing streams now silent stays =
-    ap (map (λ (log : Source). log.number))
+    ap (map (λ (log : LogRow). log.number))
     (none_pass (is_closing now silent) streams.sources
     (λ log has. not-true (is_closing now silent log) (live_yet streams now silent log has (stays log has))))
 
@@ -104,7 +104,7 @@ none_recalled destinations numbers none =
 -- no reply of the draft grants anything, and none of the logs closes
 record MakesNothing (after : State) (draft : Draft) : Type 0 where
   response : IsNoGrant draft.response
-  stays : (log : Source) → Contains after.streams.sources log → is_left draft.closes log ≡ true
+  stays : (log : LogRow) → Contains after.streams.sources log → is_left draft.closes log ≡ true
   replies : AllByRecursion (λ (message : Message). IsRefusal message.reply) draft.replies
   later : AllByRecursion (λ (message : Message). IsRefusal message.reply) draft.later
 

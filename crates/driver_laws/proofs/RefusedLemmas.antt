@@ -2,14 +2,14 @@
 use Rattle.std.proofs.Common.{ℕ, Bool, true, false, if◌then◌else◌, List, [], ◌∷◌, ◌++◌, refl, ⊎_elim}
 use Rattle.std.specs.List.{AllByRecursion}
 use Rattle.driver_core.specs.Directing.{directed, recalled, with_destination, without_destination}
-use Rattle.driver_core.specs.declared.event.Event.{Event}
-use Rattle.driver_core.specs.declared.event.Event.TheVariants.{Attach, Command, Reload, Setup, Tick}
-use Rattle.driver_core.specs.declared.event.Inputs.{Inputs}
-use Rattle.driver_core.specs.declared.outcome.Response.{Response}
-use Rattle.driver_core.specs.declared.outcome.Response.TheVariants as response
-use Rattle.driver_core.specs.declared.refusal.Refusal.{Refusal}
-use Rattle.driver_core.specs.declared.replies.Message.{Message}
-use Rattle.driver_core.specs.declared.replies.Reply.{Reply}
+use Rattle.driver_core.specs.declared.state.event.Event.{Event}
+use Rattle.driver_core.specs.declared.state.event.Event.TheVariants.{Attach, Command, Reload, Setup, Tick}
+use Rattle.driver_core.specs.declared.state.event.Inputs.{Inputs}
+use Rattle.driver_core.specs.declared.state.outcome.Response.{Response}
+use Rattle.driver_core.specs.declared.state.outcome.Response.TheVariants as response
+use Rattle.driver_core.specs.declared.state.refusal.Refusal.{Refusal}
+use Rattle.driver_core.specs.declared.state.replies.Message.{Message}
+use Rattle.driver_core.specs.declared.state.replies.Reply.{Reply}
 use Rattle.driver_core.specs.Attaching.{attached}
 use Rattle.driver_core.specs.Closing.{keep_alive, close}
 use Rattle.driver_core.specs.Commands.{heard}

@@ -5,14 +5,14 @@ use Rattle.std.proofs.lemmas.Bool.{eqb-true, eq-eqb, and_parts, cases_Bool, not_
 use Rattle.std.proofs.lemmas.List.{append-nil}
 use Rattle.std.proofs.lemmas.List.Elements.{Contains-append_left}
 use Rattle.driver_core.specs.Directing.{directed, recalled, with_destination, without_destination}
-use Rattle.driver_core.specs.declared.event.Event.{Event}
-use Rattle.driver_core.specs.declared.event.Event.TheVariants.{Attach, Command, Reload, Setup, Tick}
-use Rattle.driver_core.specs.declared.event.Inputs.{Inputs}
-use Rattle.driver_core.specs.declared.outcome.Response.{Response}
-use Rattle.driver_core.specs.declared.refusal.Refusal.{Refusal}
-use Rattle.driver_core.specs.declared.refusal.Refusal.TheVariants.{UnknownSubscription}
-use Rattle.driver_core.specs.declared.replies.Message.{Message}
-use Rattle.driver_core.specs.declared.replies.Reply.TheVariants.{Error, OperationSuccess}
+use Rattle.driver_core.specs.declared.state.event.Event.{Event}
+use Rattle.driver_core.specs.declared.state.event.Event.TheVariants.{Attach, Command, Reload, Setup, Tick}
+use Rattle.driver_core.specs.declared.state.event.Inputs.{Inputs}
+use Rattle.driver_core.specs.declared.state.outcome.Response.{Response}
+use Rattle.driver_core.specs.declared.state.refusal.Refusal.{Refusal}
+use Rattle.driver_core.specs.declared.state.refusal.Refusal.TheVariants.{UnknownSubscription}
+use Rattle.driver_core.specs.declared.state.replies.Message.{Message}
+use Rattle.driver_core.specs.declared.state.replies.Reply.TheVariants.{Error, OperationSuccess}
 use Rattle.driver_core.specs.Attaching.{attached}
 use Rattle.driver_core.specs.Closing.{keep_alive, close}
 use Rattle.driver_core.specs.Commands.{heard, requested, asked, command, at_request}
@@ -67,7 +67,7 @@ use Rattle.driver_laws.proofs.LeavingLemmas.{left_or_stays, one_left_or_stays}
 use Rattle.driver_laws.proofs.DroppingLemmas.{pairs_stay}
 use Rattle.driver_laws.proofs.NumberLemmas.{removal_rises, request_rises}
 use Rattle.driver_laws.proofs.TurningLemmas.{by_draft, rising_at, sources_at, told_before, turns_to}
-use Rattle.stream_registry.specs.declared.row.Source.{Source}
+use Rattle.stream_registry.specs.declared.row.LogRow.{LogRow}
 
 -- ---- removed exactly
 
@@ -137,7 +137,7 @@ removed_change before s logs rises now handle inputs request own =
       decided = ap (λ (client : ℕ).
           images_decided (left_behind s now handle client request.fields.registration) change.outcome.gone
           change.outcome.come) own;
-      closes = ap (λ (logs' : List Source). map place_of (filter (is_unread (pairs_of draft.after)) logs')) logs
+      closes = ap (λ (logs' : List LogRow). map place_of (filter (is_unread (pairs_of draft.after)) logs')) logs
           ∙ ap (λ (pairs : List Pair). map place_of (filter (is_unread pairs) s.streams.sources)) (sym same);
     }
 

@@ -3,11 +3,11 @@ use Rattle.std.proofs.Common.{◌≡◌, ℕ, ℤ, List, [], ◌∷◌, ◌++◌
 use Rattle.std.proofs.lemmas.List.{append-nil}
 use Rattle.std.specs.List.{AllByRecursion, flat_map}
 use Rattle.driver_core.specs.Change.{Change}
-use Rattle.driver_core.specs.declared.event.End.{End}
-use Rattle.driver_core.specs.declared.event.Event.{Event}
-use Rattle.driver_core.specs.declared.event.Inputs.{Inputs}
-use Rattle.driver_core.specs.declared.replies.Message.{Message}
-use Rattle.driver_core.specs.declared.replies.Reply.TheVariants.{AvailableImage, UnavailableImage}
+use Rattle.driver_core.specs.declared.state.event.End.{End}
+use Rattle.driver_core.specs.declared.state.event.Event.{Event}
+use Rattle.driver_core.specs.declared.state.event.Inputs.{Inputs}
+use Rattle.driver_core.specs.declared.state.replies.Message.{Message}
+use Rattle.driver_core.specs.declared.state.replies.Reply.TheVariants.{AvailableImage, UnavailableImage}
 use Rattle.driver_core.specs.Conduct.{coming_to, conduct, drafted}
 use Rattle.driver_core.specs.Draft.{Draft}
 use Rattle.driver_core.specs.Pairs.{pairs_of}
@@ -16,9 +16,9 @@ use Rattle.driver_core.specs.State.{State}
 use Rattle.driver_core.specs.Unread.{dropping}
 use Rattle.driver_core.proofs.PairLemmas.{nothing_lacks}
 use Rattle.stream_registry.specs.declared.pairs.Pair.{Pair}
-use Rattle.stream_registry.specs.declared.row.Source.{Source}
+use Rattle.stream_registry.specs.declared.row.LogRow.{LogRow}
 use Rattle.stream_registry.specs.declared.row.Subscription.{Subscription}
-use Rattle.driver_core.specs.declared.source_identity.SourceIdentity.{SourceIdentity}
+use Rattle.driver_core.specs.declared.state.source_identity.SourceIdentity.{SourceIdentity}
 
 -- an event is its draft by the policy as it is at its moment, renewed
 pub conduct_is : (s : State) (event : Event) (inputs : Inputs) →
@@ -76,7 +76,7 @@ unavailable_holds P holds pair None = tt
 unavailable_holds P holds pair (Some subscription) =
     (holds.unavailable subscription.client pair.source pair.subscription subscription.stream, tt)
 
-available_holds : (P : Message → Type 0) → HoldsOfImages P → (ends : List End) (pair : Pair) (log : Option Source)
+available_holds : (P : Message → Type 0) → HoldsOfImages P → (ends : List End) (pair : Pair) (log : Option LogRow)
     (subscription : Option Subscription) → AllByRecursion P (available_to ends pair log subscription)
 available_holds P holds ends pair None subscription = tt
 available_holds P holds ends pair (Some log) None = tt

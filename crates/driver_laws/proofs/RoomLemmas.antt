@@ -22,7 +22,7 @@ use Rattle.destinations.specs.Destinations.{DestinationList, adding as naming, h
 use Rattle.destinations.specs.Laws.{IsAmong}
 use Rattle.stream_registry.specs.declared.fault.StreamFault.{StreamFault}
 use Rattle.stream_registry.specs.declared.fault.StreamFault.TheVariants.{Conflict, Full}
-use Rattle.stream_registry.specs.declared.row.Source.{Source}
+use Rattle.stream_registry.specs.declared.row.LogRow.{LogRow}
 use Rattle.stream_registry.specs.declared.wanted.Adding.{Adding}
 use Rattle.stream_registry.specs.declared.wanted.Adding.TheVariants.{Join, Make}
 use Rattle.stream_registry.specs.declared.wanted.ImageWanted.{ImageWanted}
@@ -100,7 +100,7 @@ making_full streams wanted is =
     (is_stated_again streams.sources wanted.channel.media wanted.stream (stated_session_of wanted.channel))
     (has_room_for_registration streams && has_room_for_log streams) (Make (session_of streams wanted.channel)) is)
 
-joining_full : (streams : Streams) (channel : Shape) (log : Source) → joining_of streams channel log ≡ Err Full →
+joining_full : (streams : Streams) (channel : Shape) (log : LogRow) → joining_of streams channel log ≡ Err Full →
     (1024 ≤ length streams.registrations) ⊎ (256 ≤ length (filter is_published streams.sources))
 unfolding joining_of
 joining_full streams channel log is =
@@ -108,7 +108,7 @@ joining_full streams channel log is =
     (without_room (contradicts streams.defaults channel log) (has_room_for_registration streams)
     (Join log.number log.session) is))
 
-by_full : (streams : Streams) (wanted : Wanted) (found : Option Source) → adding_by streams wanted found ≡ Err Full →
+by_full : (streams : Streams) (wanted : Wanted) (found : Option LogRow) → adding_by streams wanted found ≡ Err Full →
     (1024 ≤ length streams.registrations) ⊎ (256 ≤ length (filter is_published streams.sources))
 by_full streams wanted None is = making_full streams wanted is
 by_full streams wanted (Some log) is = joining_full streams wanted.channel log is
@@ -145,13 +145,13 @@ all_of P (row ∷ rows) each =
     (each row (first_there row rows), all_of P rows (λ other there. each other (later_there row other rows there)))
 
 -- the numbers of the live publications
-abbrev publications_of : List Source → List ℕ
-publications_of logs = map (λ (log : Source). log.number) (filter is_published logs)
+abbrev publications_of : List LogRow → List ℕ
+publications_of logs = map (λ (log : LogRow). log.number) (filter is_published logs)
 
-is_among : (logs : List Source) (source : ℕ) → HasPublication logs source → IsAmong (publications_of logs) source
+is_among : (logs : List LogRow) (source : ℕ) → HasPublication logs source → IsAmong (publications_of logs) source
 is_among logs source was =
     any_of (λ (other : ℕ). other == source) (publications_of logs) was.log.number
-    (mapped (λ (log : Source). log.number) (filter is_published logs) was.log
+    (mapped (λ (log : LogRow). log.number) (filter is_published logs) was.log
     (passes_are_left is_published logs was.log was.published was.stands))
     (eq-eqb was.log.number source was.source_is)
 
@@ -166,10 +166,10 @@ named_room destinations source left' each all =
     (both_hold _ _ (lt-ltb (length destinations.rows) 8192 all)
     (lt-ltb destinations.last 18446744073709551615 left'))
 
-publications_count : (logs : List Source) → length (publications_of logs) ≡ length (filter is_published logs)
-publications_count logs = length-map (filter is_published logs) (λ (log : Source). log.number)
+publications_count : (logs : List LogRow) → length (publications_of logs) ≡ length (filter is_published logs)
+publications_count logs = length-map (filter is_published logs) (λ (log : LogRow). log.number)
 
-live_room : (destinations : DestinationList) (logs : List Source) (source : ℕ) → AreOfLive destinations logs → AreFew logs →
+live_room : (destinations : DestinationList) (logs : List LogRow) (source : ℕ) → AreOfLive destinations logs → AreFew logs →
     HasPublication logs source → IsLeft destinations.last → length (of destinations.rows source) < 32 →
     has_room_in destinations source ≡ true
 live_room destinations logs source live few was left' each =
@@ -182,7 +182,7 @@ live_room destinations logs source live few was left' each =
     (is_among logs source was) each)
 
 -- a source of which nothing is named yet
-next_room : (destinations : DestinationList) (logs : List Source) (source : ℕ) → AreOfLive destinations logs →
+next_room : (destinations : DestinationList) (logs : List LogRow) (source : ℕ) → AreOfLive destinations logs →
     length (filter is_published logs) < 256 → IsLeft destinations.last → length (of destinations.rows source) ≡ 0 →
     has_room_in destinations source ≡ true
 next_room destinations logs source live few left' none =
@@ -198,7 +198,7 @@ next_room destinations logs source live few left' none =
     (eq-eqb source source refl))
     (omega (arith, none)))
 
-address_room : (destinations : DestinationList) (logs : List Source) (source : ℕ) (address : Option Address) →
+address_room : (destinations : DestinationList) (logs : List LogRow) (source : ℕ) (address : Option Address) →
     AreOfLive destinations logs → length (filter is_published logs) < 256 → IsLeft destinations.last →
     ((destination : Destination) → Contains destinations.rows destination → (destination.source == source) ≡ false) →
     can_direct destinations source address ≡ true
@@ -224,7 +224,7 @@ sole_room : (s : State) (wanted : Wanted) (adding : Adding) → AreOfLive s.dest
 unfolding has_room_for_sole
 sole_room s wanted (Join source session) named drawn left' is = refl
 sole_room s wanted (Make session) named drawn left' is =
-    let logs : List Source = s.streams.sources in
+    let logs : List LogRow = s.streams.sources in
     let few : length (filter is_published logs) < 256 =
     ltb-true (length (filter is_published logs)) 256 (make_has_room_for_log s.streams wanted session is) in
     address_room s.destinations logs (s.last_number + 1) (sole_address wanted.channel) named few left'

@@ -2,10 +2,10 @@
 use Rattle.std.proofs.Common.{◌≡◌, ℕ, ◌<◌, ◌≤◌, Bool, true, false, not, ◌&&◌, List, [], ◌∷◌, filter, length, Option, Some, None, Ok, Err, is_some, refl, sym, subst, ap, ◌∙◌, ⊎_elim, arith}
 use Rattle.std.specs.List.{Contains, list_any}
 use Rattle.std.proofs.lemmas.Bool.{and_parts, cases_Bool, cases_order, cond_both, le-leb, leb-true, lt-ltb, ltb-true, not-false, not-true}
-use Rattle.driver_core.specs.declared.event.Event.TheVariants.{Setup}
-use Rattle.driver_core.specs.declared.event.Inputs.{Inputs}
-use Rattle.driver_core.specs.declared.setup_fault.SetupFault.{SetupFault}
-use Rattle.driver_core.specs.declared.setup_fault.SetupFault.TheVariants.{BadSetup, Denied, Exists, Full, NoRoom, NoSubscription}
+use Rattle.driver_core.specs.declared.state.event.Event.TheVariants.{Setup}
+use Rattle.driver_core.specs.declared.state.event.Inputs.{Inputs}
+use Rattle.driver_core.specs.declared.state.setup_fault.SetupFault.{SetupFault}
+use Rattle.driver_core.specs.declared.state.setup_fault.SetupFault.TheVariants.{BadSetup, Denied, Exists, Full, NoRoom, NoSubscription}
 use Rattle.driver_core.specs.Conduct.{conduct, drafted}
 use Rattle.driver_core.specs.Pairs.{is_within_pairs, prospects_of}
 use Rattle.driver_core.specs.SettingUp.{allowed_for, fitting, has_room_for_setup, is_from, new_image, place_of_image, placing, room_for, set_up, setting_of, verdict_for, wanted_by, with_image}
@@ -20,7 +20,7 @@ use Rattle.channel_uri.specs.declared.address.Address.{Address}
 use Rattle.client_registry.specs.Clients.{principal_at}
 use Rattle.frame_codec.specs.declared.setup.Setup.{Setup as SetupFrame}
 use Rattle.policy_core.specs.declared.verdict.Verdict.{Verdict}
-use Rattle.stream_registry.specs.declared.row.Source.{Source}
+use Rattle.stream_registry.specs.declared.row.LogRow.{LogRow}
 use Rattle.stream_registry.specs.declared.row.Subscription.{Subscription}
 use Rattle.stream_registry.specs.declared.wanted.ImageWanted.{ImageWanted}
 use Rattle.stream_registry.specs.Images.{image_at, is_image_at}
@@ -42,7 +42,7 @@ both_ways b is lacks =
 
 -- ---- whether an image of it is there
 
-there_is : (s : State) (wanted : ImageWanted) (found : Option Source) →
+there_is : (s : State) (wanted : ImageWanted) (found : Option LogRow) →
     image_at s.streams wanted.channel wanted.session wanted.stream ≡ found → is_some found ≡ true → IsThere s wanted
 there_is s wanted None is some = absurd (cc some)
 there_is s wanted (Some image) is some =
@@ -147,7 +147,7 @@ any_allowed : (s : State) (now : ℕ) (wanted : ImageWanted) → IsAllowedToOne 
     list_any (allows (at_moment s now)) (fitting (at_moment s now) wanted) ≡ true
 unfolding at_moment is_allowed
 any_allowed s now wanted one =
-    let log : Source = new_image (at_moment s now) wanted in
+    let log : LogRow = new_image (at_moment s now) wanted in
     is_any (is_allowed s.clients.rows s.policy s.epoch) (filter (fits log) s.streams.subscriptions) one.subscription
     (passes_are_left (fits log) s.streams.subscriptions one.subscription one.fitting one.stands)
     (ap (is_allowed_to s.policy s.epoch one.subscription) one.attached ∙ one.allowed)
@@ -167,7 +167,7 @@ none_allowed : (s : State) (now : ℕ) (wanted : ImageWanted) (verdict : Verdict
     list_any (allows (at_moment s now)) (fitting (at_moment s now) wanted) ≡ false
 unfolding at_moment is_allowed
 none_allowed s now wanted verdict owned all =
-    let log : Source = new_image (at_moment s now) wanted in
+    let log : LogRow = new_image (at_moment s now) wanted in
     none_any (is_allowed s.clients.rows s.policy s.epoch) (filter (fits log) s.streams.subscriptions)
     (λ row has.
     let stands : Contains s.streams.subscriptions row = left_was_there (fits log) s.streams.subscriptions row has in
@@ -180,7 +180,7 @@ none_allowed s now wanted verdict owned all =
 fits_none : (s : State) (now : ℕ) (wanted : ImageWanted) → fitting (at_moment s now) wanted ≡ [] → FitsNone s now wanted
 unfolding at_moment
 fits_none s now wanted none row stands =
-    let log : Source = new_image (at_moment s now) wanted in
+    let log : LogRow = new_image (at_moment s now) wanted in
     ⊎_elim
     (λ fits'.
     let has : Contains (filter (fits log) s.streams.subscriptions) row =
@@ -287,7 +287,7 @@ first_is : (s : State) (now : ℕ) (wanted : ImageWanted) (verdict : Verdict) (a
     fitting (at_moment s now) wanted ≡ first ∷ others → first ≡ all.first
 unfolding at_moment
 first_is s now wanted verdict all first others rises is =
-    let log : Source = new_image (at_moment s now) wanted in
+    let log : LogRow = new_image (at_moment s now) wanted in
     let rows : List Subscription = filter (fits log) s.streams.subscriptions in
     let has : Contains rows first = rw is (first_there first others) in
     let stands : Contains s.streams.subscriptions first = left_was_there (fits log) s.streams.subscriptions first has in

@@ -7,10 +7,10 @@ use Rattle.std.specs.Option.{option_map}
 use Rattle.std.proofs.lemmas.Bool.{cases_Bool, cond_both}
 use Rattle.std.proofs.lemmas.List.{append-nil}
 use Rattle.std.proofs.lemmas.List.Elements.{Contains-append_cases, Contains-push}
-use Rattle.driver_core.specs.declared.event.Inputs.{Inputs}
-use Rattle.driver_core.specs.declared.outcome.Response.TheVariants.{Dropped}
-use Rattle.driver_core.specs.declared.setup_fault.SetupFault.{SetupFault}
-use Rattle.driver_core.specs.declared.setup_fault.SetupFault.TheVariants.{BadSetup, Denied}
+use Rattle.driver_core.specs.declared.state.event.Inputs.{Inputs}
+use Rattle.driver_core.specs.declared.state.outcome.Response.TheVariants.{Dropped}
+use Rattle.driver_core.specs.declared.state.setup_fault.SetupFault.{SetupFault}
+use Rattle.driver_core.specs.declared.state.setup_fault.SetupFault.TheVariants.{BadSetup, Denied}
 use Rattle.driver_core.specs.Draft.{answered}
 use Rattle.driver_core.specs.Pairs.{pairs_of}
 use Rattle.driver_core.specs.Renewal.{renewed}
@@ -29,7 +29,7 @@ use Rattle.frame_codec.specs.declared.setup.Setup.{Setup as SetupFrame}
 use Rattle.frame_codec.specs.Join.{join_of}
 use Rattle.log_readers.specs.Unread.{is_kept, without_unread as without_unread_in}
 use Rattle.policy_core.specs.declared.verdict.Verdict.{Verdict}
-use Rattle.stream_registry.specs.declared.row.Source.{Source}
+use Rattle.stream_registry.specs.declared.row.LogRow.{LogRow}
 use Rattle.stream_registry.specs.declared.row.Subscription.{Subscription}
 use Rattle.stream_registry.specs.declared.wanted.ImageWanted.{ImageWanted}
 use Rattle.stream_registry.specs.Images.{image_at}
@@ -153,7 +153,7 @@ pub denied_to : (s : State) (now : ℕ) (wanted : ImageWanted) (verdict : Verdic
     IsDeniedIn (at_moment s now) verdict (fitting (at_moment s now) wanted) → IsDeniedToAll s now wanted verdict
 unfolding at_moment is_allowed
 denied_to s now wanted verdict rises owned denied =
-    let log : Source = new_image (at_moment s now) wanted in
+    let log : LogRow = new_image (at_moment s now) wanted in
     let rows : List Subscription = fitting (at_moment s now) wanted in
     let first : Subscription = denied.first in
     let has : Contains rows first = rw denied.rows_are (first_there first denied.others) in
@@ -201,7 +201,7 @@ pub found_one : (s : State) (now : ℕ) (wanted : ImageWanted) →
     IsAllowedToOne s now wanted
 unfolding at_moment is_allowed
 found_one s now wanted any =
-    let log : Source = new_image (at_moment s now) wanted in
+    let log : LogRow = new_image (at_moment s now) wanted in
     let found : Found (is_allowed s.clients.rows s.policy s.epoch) (filter (fits log) s.streams.subscriptions) =
     found_of (is_allowed s.clients.rows s.policy s.epoch) (filter (fits log) s.streams.subscriptions) any in
     let allowed = allowed_to s.policy s.epoch found.one (principal_at s.clients.rows found.one.client) found.passes in

@@ -10,7 +10,7 @@ use Rattle.channel_uri.specs.Channel.{Shape}
 use Rattle.stream_registry.specs.declared.row.Origin.{Origin}
 use Rattle.stream_registry.specs.declared.row.Origin.TheVariants.{Published, Remote}
 use Rattle.stream_registry.specs.declared.row.Registration.{Registration}
-use Rattle.stream_registry.specs.declared.row.Source.{Source}
+use Rattle.stream_registry.specs.declared.row.LogRow.{LogRow}
 use Rattle.stream_registry.specs.declared.wanted.Adding.{Adding}
 use Rattle.stream_registry.specs.declared.wanted.Adding.TheVariants.{Join, Make}
 use Rattle.stream_registry.specs.declared.wanted.ImageWanted.{ImageWanted}
@@ -22,16 +22,16 @@ use Rattle.stream_registry.specs.Lingering.{closed, is_used, left_alone, settled
 use Rattle.stream_registry.specs.Origins.{address_by, address_of, left_by}
 use Rattle.stream_registry.specs.Streams.{Streams}
 
-abbrev pub count_from : Address → List Source → ℕ
+abbrev pub count_from : Address → List LogRow → ℕ
 count_from from logs = length (filter (is_from from) logs)
 
 -- no source address has more of them than that
-abbrev pub AreWithin : ℕ → List Source → Type 0
+abbrev pub AreWithin : ℕ → List LogRow → Type 0
 AreWithin bound logs = (from : Address) → count_from from logs ≤ bound
 
 -- ---- some go
 
-kept_step : (test : Source → Bool) (b c : Bool) (log : Source) (kept rest : List Source) → test log ≡ c →
+kept_step : (test : LogRow → Bool) (b c : Bool) (log : LogRow) (kept rest : List LogRow) → test log ≡ c →
     length (filter test kept) ≤ length rest →
     length (filter test (cond b (log ∷ kept) kept)) ≤ length (cond c (log ∷ rest) rest)
 kept_step test true true log kept rest is few = rw is (omega (arith, few))
@@ -39,13 +39,13 @@ kept_step test true false log kept rest is few = rw is few
 kept_step test false true log kept rest is few = omega (arith, few)
 kept_step test false false log kept rest is few = few
 
-kept_fewer : (test stays : Source → Bool) (logs : List Source) →
+kept_fewer : (test stays : LogRow → Bool) (logs : List LogRow) →
     length (filter test (filter stays logs)) ≤ length (filter test logs)
 kept_fewer test stays [] = omega arith
 kept_fewer test stays (log ∷ logs) =
     kept_step test (stays log) (test log) log (filter stays logs) (filter test logs) refl (kept_fewer test stays logs)
 
-pub kept_within : (bound : ℕ) (stays : Source → Bool) (logs : List Source) → AreWithin bound logs →
+pub kept_within : (bound : ℕ) (stays : LogRow → Bool) (logs : List LogRow) → AreWithin bound logs →
     AreWithin bound (filter stays logs)
 kept_within bound stays logs few = λ from.
     let kept = kept_fewer (is_from from) stays logs in
@@ -63,7 +63,7 @@ left_address : (now : ℕ) (origin : Origin) → address_by (left_by now origin)
 left_address now (Published exclusive since) = refl
 left_address now (Remote address initial_term join) = refl
 
-settled_from : (from : Address) (registrations : List Registration) (now : ℕ) (log : Source) →
+settled_from : (from : Address) (registrations : List Registration) (now : ℕ) (log : LogRow) →
     is_from from (settled_one registrations now log) ≡ is_from from log
 settled_from from registrations now log = by (is_used registrations log.number)
   where
@@ -71,19 +71,19 @@ settled_from from registrations now log = by (is_used registrations log.number)
     by true = refl
     by false = ap (sends_from from) (left_address now log.origin)
 
-mapped_step : (b : Bool) (new old : Source) (news olds : List Source) → length news ≡ length olds →
+mapped_step : (b : Bool) (new old : LogRow) (news olds : List LogRow) → length news ≡ length olds →
     length (cond b (new ∷ news) news) ≡ length (cond b (old ∷ olds) olds)
 mapped_step true new old news olds same = omega (arith, same)
 mapped_step false new old news olds same = same
 
-mapped_same : (test : Source → Bool) (f : Source → Source) → ((log : Source) → test (f log) ≡ test log) →
-    (logs : List Source) → length (filter test (map f logs)) ≡ length (filter test logs)
+mapped_same : (test : LogRow → Bool) (f : LogRow → LogRow) → ((log : LogRow) → test (f log) ≡ test log) →
+    (logs : List LogRow) → length (filter test (map f logs)) ≡ length (filter test logs)
 mapped_same test f same [] = refl
 mapped_same test f same (log ∷ logs) =
     ap (λ (b : Bool). length (cond b (f log ∷ filter test (map f logs)) (filter test (map f logs)))) (same log)
     ∙ mapped_step (test log) (f log) log (filter test (map f logs)) (filter test logs) (mapped_same test f same logs)
 
-settled_within : (bound : ℕ) (registrations : List Registration) (now : ℕ) (logs : List Source) → AreWithin bound logs →
+settled_within : (bound : ℕ) (registrations : List Registration) (now : ℕ) (logs : List LogRow) → AreWithin bound logs →
     AreWithin bound (map (settled_one registrations now) logs)
 settled_within bound registrations now logs few = λ from.
     let same = mapped_same (is_from from) (settled_one registrations now) (settled_from from registrations now) logs in
@@ -114,11 +114,11 @@ unsubscribed_within bound s client number few = few
 
 -- ---- one comes
 
-only : (b : Bool) (log : Source) → length (cond b (log ∷ []) []) ≡ cond b 1 0
+only : (b : Bool) (log : LogRow) → length (cond b (log ∷ []) []) ≡ cond b 1 0
 only true log = refl
 only false log = refl
 
-pushed : (test : Source → Bool) (logs : List Source) (log : Source) →
+pushed : (test : LogRow → Bool) (logs : List LogRow) (log : LogRow) →
     length (filter test (logs ++ log ∷ [])) ≡ length (filter test logs) + cond (test log) 1 0
 pushed test logs log =
     ap length (filter-append test logs (log ∷ [])) ∙ length-append (filter test logs) (filter test (log ∷ []))
@@ -139,11 +139,11 @@ sends_alike : (one other : Address) → one.octets ≡ other.octets → (publish
 sends_alike one other same None = refl
 sends_alike one other same (Some publisher) = ap (bytes_eq publisher.octets) same
 
-counted_alike : (one other : Address) → one.octets ≡ other.octets → (logs : List Source) →
+counted_alike : (one other : Address) → one.octets ≡ other.octets → (logs : List LogRow) →
     count_from one logs ≡ count_from other logs
 counted_alike one other same logs =
     ap length
-    (filter_agree (is_from one) (is_from other) (λ (log : Source). sends_alike one other same (address_of log)) logs)
+    (filter_agree (is_from one) (is_from other) (λ (log : LogRow). sends_alike one other same (address_of log)) logs)
 
 pub imaged_within : (bound : ℕ) (s : Streams) (number place : ℕ) (wanted : ImageWanted) →
     count_from wanted.address s.sources < bound → AreWithin bound s.sources →

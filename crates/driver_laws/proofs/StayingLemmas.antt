@@ -2,10 +2,10 @@
 use Rattle.std.proofs.Common.{◌≡◌, true, List, [], map, ap}
 use Rattle.std.specs.List.{Contains}
 use Rattle.std.proofs.lemmas.Bool.{not-true}
-use Rattle.driver_core.specs.declared.event.Event.{Event}
-use Rattle.driver_core.specs.declared.event.Inputs.{Inputs}
-use Rattle.driver_core.specs.declared.peer.Peer.{Peer}
-use Rattle.driver_core.specs.declared.settings.Settings.{Settings}
+use Rattle.driver_core.specs.declared.state.event.Event.{Event}
+use Rattle.driver_core.specs.declared.state.event.Inputs.{Inputs}
+use Rattle.driver_core.specs.declared.state.peer.Peer.{Peer}
+use Rattle.driver_core.specs.declared.state.settings.Settings.{Settings}
 use Rattle.driver_core.specs.Conduct.{coming_to, conduct, drafted, moment_told, state_after, state_of}
 use Rattle.driver_core.specs.Draft.{Draft}
 use Rattle.driver_core.specs.Pairs.{pairs_of}
@@ -18,7 +18,7 @@ use Rattle.driver_laws.specs.NumberLaws.{AreRising}
 use Rattle.log_readers.specs.Numbering.{source_of}
 use Rattle.log_readers.specs.Unread.{has_none, is_kept, is_unread, without_unread as without_unread_in}
 use Rattle.policy_core.specs.RuleList.{Rules}
-use Rattle.stream_registry.specs.declared.row.Source.{Source}
+use Rattle.stream_registry.specs.declared.row.LogRow.{LogRow}
 use Rattle.driver_core.proofs.ListLemmas.{contains_none}
 use Rattle.driver_laws.proofs.DroppingLemmas.{AreKept, drops_nothing, none_pass, pairs_stay, passes_test}
 use Rattle.driver_laws.proofs.NumberLemmas.{draft_rises, event_rises, opened_rises}
@@ -27,7 +27,7 @@ use Rattle.driver_laws.proofs.TurningLemmas.{rising_at}
 
 -- ---- each image is read
 
-kept_logs : (s : State) (log : Source) → Contains (without_unread s).streams.sources log → is_kept (pairs_of s) log ≡ true
+kept_logs : (s : State) (log : LogRow) → Contains (without_unread s).streams.sources log → is_kept (pairs_of s) log ≡ true
 unfolding without_unread without_unread_in pairs_of
 kept_logs s log has = passes_test (is_kept (pairs_of s)) s.streams.sources log has
 
@@ -55,7 +55,7 @@ images_read settings policy peers events = (both_hold settings policy peers even
 
 none_unread : (s : State) → AreRead s → are_all_read s ≡ true
 none_unread s read =
-    ap (λ (logs : List Source). has_none (map source_of logs))
+    ap (λ (logs : List LogRow). has_none (map source_of logs))
     (none_pass (is_unread (pairs_of s)) s.streams.sources
     (λ log has. not-true (is_unread (pairs_of s) log) (read log has)))
 

@@ -2,12 +2,12 @@
 use Rattle.std.proofs.Common.{◌≡◌, ℕ, ℤ, ◌==◌, ◌+◌, ◌&&◌, nat_le, max, Bool, true, false, cond, List, [], ◌∷◌, length, Some, refl, sym, ap, ◌∙◌}
 use Rattle.std.proofs.lemmas.Bool.{eqb-true, eq-eqb}
 use Rattle.std.proofs.lemmas.List.{append-nil}
-use Rattle.driver_core.specs.declared.event.Event.TheVariants.{Command}
-use Rattle.driver_core.specs.declared.event.Inputs.{Inputs}
-use Rattle.driver_core.specs.declared.refusal.Refusal.{Refusal}
-use Rattle.driver_core.specs.declared.refusal.Refusal.TheVariants.{Denied, Full}
-use Rattle.driver_core.specs.declared.replies.Message.{Message}
-use Rattle.driver_core.specs.declared.replies.Reply.TheVariants.{Error, SubscriptionReady}
+use Rattle.driver_core.specs.declared.state.event.Event.TheVariants.{Command}
+use Rattle.driver_core.specs.declared.state.event.Inputs.{Inputs}
+use Rattle.driver_core.specs.declared.state.refusal.Refusal.{Refusal}
+use Rattle.driver_core.specs.declared.state.refusal.Refusal.TheVariants.{Denied, Full}
+use Rattle.driver_core.specs.declared.state.replies.Message.{Message}
+use Rattle.driver_core.specs.declared.state.replies.Reply.TheVariants.{Error, SubscriptionReady}
 use Rattle.driver_core.specs.Commands.{heard, requested, asked, command, at_request}
 use Rattle.driver_core.specs.Conduct.{conduct, drafted}
 use Rattle.driver_core.specs.Deciding.{decision_by}

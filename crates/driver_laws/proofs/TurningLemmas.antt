@@ -2,9 +2,9 @@
 use Rattle.std.proofs.Common.{◌≡◌, ℕ, not, ◌||◌, List, [], ◌∷◌, map, filter, refl, sym, ap, ◌∙◌, subst}
 use Rattle.std.proofs.lemmas.List.{append-nil}
 use Rattle.driver_core.specs.Change.{Change}
-use Rattle.driver_core.specs.declared.event.Event.{Event}
-use Rattle.driver_core.specs.declared.event.Inputs.{Inputs}
-use Rattle.driver_core.specs.declared.replies.Message.{Message}
+use Rattle.driver_core.specs.declared.state.event.Event.{Event}
+use Rattle.driver_core.specs.declared.state.event.Inputs.{Inputs}
+use Rattle.driver_core.specs.declared.state.replies.Message.{Message}
 use Rattle.driver_core.specs.Conduct.{coming_to, conduct, drafted}
 use Rattle.driver_core.specs.Draft.{Draft}
 use Rattle.driver_core.specs.Pairs.{lacking, pairs_of}
@@ -17,7 +17,7 @@ use Rattle.driver_laws.specs.Turning.{TurnsTo}
 use Rattle.log_readers.specs.Unread.{is_kept, is_left, is_unread, without_unread as without_unread_in}
 use Rattle.stream_registry.specs.declared.lingering.LogPlace.{LogPlace}
 use Rattle.stream_registry.specs.declared.pairs.Pair.{Pair}
-use Rattle.stream_registry.specs.declared.row.Source.{Source}
+use Rattle.stream_registry.specs.declared.row.LogRow.{LogRow}
 use Rattle.stream_registry.specs.Lingering.{place_of}
 use Rattle.driver_core.specs.Commands.{heard, at_request}
 use Rattle.driver_core.proofs.PairLemmas.{pairs_heard}
@@ -32,7 +32,7 @@ turns_to before inputs draft after closes same = record {
   closes =
       ap (λ (places : List LogPlace).
       map place_of
-      (filter (λ (log : Source). not (is_left places log) || is_unread (pairs_of draft.after) log) before.streams.sources))
+      (filter (λ (log : LogRow). not (is_left places log) || is_unread (pairs_of draft.after) log) before.streams.sources))
       closes
       ∙ ap (λ (pairs : List Pair). map place_of (filter (is_unread pairs) before.streams.sources)) same;
 }

@@ -5,10 +5,10 @@ use Rattle.std.specs.Ordering.{int_eq}
 use Rattle.std.proofs.lemmas.Bool.{and_parts}
 use Rattle.std.proofs.lemmas.Bool.Decides.{Decides-int_eq}
 use Rattle.std.proofs.lemmas.Slice.Eq.{bytes_eq-Decides}
-use Rattle.driver_core.specs.declared.event.Event.{Event}
-use Rattle.driver_core.specs.declared.event.Inputs.{Inputs}
-use Rattle.driver_core.specs.declared.peer.Peer.{Peer}
-use Rattle.driver_core.specs.declared.settings.Settings.{Settings}
+use Rattle.driver_core.specs.declared.state.event.Event.{Event}
+use Rattle.driver_core.specs.declared.state.event.Inputs.{Inputs}
+use Rattle.driver_core.specs.declared.state.peer.Peer.{Peer}
+use Rattle.driver_core.specs.declared.state.settings.Settings.{Settings}
 use Rattle.driver_core.specs.Conduct.{coming_to, state_after}
 use Rattle.driver_core.specs.SettingUp.{wanted_by}
 use Rattle.driver_core.specs.State.{State, at_moment, opened, ruled}
@@ -22,7 +22,7 @@ use Rattle.channel_uri.specs.Place.{Spot, AtIpc, AtManual, AtControl, AtEndpoint
 use Rattle.policy_core.specs.RuleList.{Rules}
 use Rattle.stream_registry.specs.declared.row.Origin.{Origin}
 use Rattle.stream_registry.specs.declared.row.Origin.TheVariants.{Published, Remote}
-use Rattle.stream_registry.specs.declared.row.Source.{Source}
+use Rattle.stream_registry.specs.declared.row.LogRow.{LogRow}
 use Rattle.stream_registry.specs.Images.{is_image_at}
 use Rattle.stream_registry.specs.Origins.{is_published_by, is_remote, unlingering}
 use Rattle.stream_registry.specs.Places.{are_same, is_same_place, is_same_spot}
@@ -85,13 +85,13 @@ place_through channel other third one two =
 -- ---- images of one publisher
 
 -- the parts of what a search looks for
-record IsAt (channel : Shape) (session stream : ℤ) (log : Source) : Type 0 where
+record IsAt (channel : Shape) (session stream : ℤ) (log : LogRow) : Type 0 where
   is_image : is_remote log ≡ true
   session_is : log.session ≡ session
   stream_is : log.stream ≡ stream
   place : is_same_place log.channel channel ≡ true
 
-is_at : (channel : Shape) (session stream : ℤ) (log : Source) → is_image_at channel session stream log ≡ true →
+is_at : (channel : Shape) (session stream : ℤ) (log : LogRow) → is_image_at channel session stream log ≡ true →
     IsAt channel session stream log
 unfolding is_image_at
 is_at channel session stream log is =
@@ -105,7 +105,7 @@ is_at channel session stream log is =
       place = first.1;
     }
 
-looked_for : (channel : Shape) (session stream : ℤ) (log : Source) → IsAt channel session stream log →
+looked_for : (channel : Shape) (session stream : ℤ) (log : LogRow) → IsAt channel session stream log →
     is_image_at channel session stream log ≡ true
 unfolding is_image_at
 looked_for channel session stream log at =
@@ -113,7 +113,7 @@ looked_for channel session stream log at =
     let stream' : int_eq log.stream stream ≡ true = (Decides-int_eq log.stream stream).1 at.stream_is in
     rw (at.is_image, session', stream', at.place) refl
 
-other_way : (log other : Source) → AreOfOnePublisher log other → AreOfOnePublisher other log
+other_way : (log other : LogRow) → AreOfOnePublisher log other → AreOfOnePublisher other log
 other_way log other both = record {
   is_image = both.other_is_image;
   other_is_image = both.is_image;
@@ -122,7 +122,7 @@ other_way log other both = record {
   stream = sym both.stream;
 }
 
-at_one : (channel : Shape) (session stream : ℤ) (log other : Source) → IsAt channel session stream log →
+at_one : (channel : Shape) (session stream : ℤ) (log other : LogRow) → IsAt channel session stream log →
     IsAt channel session stream other → AreOfOnePublisher log other
 at_one channel session stream log other one two = record {
   is_image = one.is_image;
@@ -137,19 +137,19 @@ origin_kind : (origin : Origin) → is_published_by (unlingering origin) ≡ is_
 origin_kind (Published exclusive since) = refl
 origin_kind (Remote address initial_term join) = refl
 
-kind_alike : (log other : Source) → IsSameLog log other → is_remote log ≡ is_remote other
+kind_alike : (log other : LogRow) → IsSameLog log other → is_remote log ≡ is_remote other
 kind_alike log other same =
-    ap not (sym (origin_kind log.origin)) ∙ ap (λ (p : Source). is_remote p) same ∙ ap not (origin_kind other.origin)
+    ap not (sym (origin_kind log.origin)) ∙ ap (λ (p : LogRow). is_remote p) same ∙ ap not (origin_kind other.origin)
 
-were_of_one : (log other before another : Source) → IsSameLog log before → IsSameLog other another →
+were_of_one : (log other before another : LogRow) → IsSameLog log before → IsSameLog other another →
     AreOfOnePublisher log other → AreOfOnePublisher before another
 were_of_one log other before another one two both =
-    let channel : log.channel ≡ before.channel = ap (λ (p : Source). p.channel) one in
-    let channel' : other.channel ≡ another.channel = ap (λ (p : Source). p.channel) two in
-    let session : log.session ≡ before.session = ap (λ (p : Source). p.session) one in
-    let session' : other.session ≡ another.session = ap (λ (p : Source). p.session) two in
-    let stream : log.stream ≡ before.stream = ap (λ (p : Source). p.stream) one in
-    let stream' : other.stream ≡ another.stream = ap (λ (p : Source). p.stream) two in
+    let channel : log.channel ≡ before.channel = ap (λ (p : LogRow). p.channel) one in
+    let channel' : other.channel ≡ another.channel = ap (λ (p : LogRow). p.channel) two in
+    let session : log.session ≡ before.session = ap (λ (p : LogRow). p.session) one in
+    let session' : other.session ≡ another.session = ap (λ (p : LogRow). p.session) two in
+    let stream : log.stream ≡ before.stream = ap (λ (p : LogRow). p.stream) one in
+    let stream' : other.stream ≡ another.stream = ap (λ (p : LogRow). p.stream) two in
     record {
       is_image = sym (kind_alike log before one) ∙ both.is_image;
       other_is_image = sym (kind_alike other another two) ∙ both.other_is_image;
@@ -161,15 +161,15 @@ were_of_one log other before another one two both =
 -- ---- an image that comes
 
 -- none of its publisher was there
-is_new : (s : State) (event : Event) (image log : Source) → IsImageMadeBy s event image → Contains s.streams.sources log →
+is_new : (s : State) (event : Event) (image log : LogRow) → IsImageMadeBy s event image → Contains s.streams.sources log →
     AreOfOnePublisher log image → ⊥
 unfolding at_moment
 is_new s event image log made has both =
     let wanted = wanted_by made.local made.from made.setup made.join in
     let set : IsSet (at_moment s made.now) wanted made.place = is_set (at_moment s made.now) wanted made.place made.set in
-    let channel : image.channel ≡ wanted.channel = ap (λ (p : Source). p.channel) made.log_is in
-    let session : image.session ≡ wanted.session = ap (λ (p : Source). p.session) made.log_is in
-    let stream : image.stream ≡ wanted.stream = ap (λ (p : Source). p.stream) made.log_is in
+    let channel : image.channel ≡ wanted.channel = ap (λ (p : LogRow). p.channel) made.log_is in
+    let session : image.session ≡ wanted.session = ap (λ (p : LogRow). p.session) made.log_is in
+    let stream : image.stream ≡ wanted.stream = ap (λ (p : LogRow). p.stream) made.log_is in
     let there : is_image_at wanted.channel wanted.session wanted.stream log ≡ true =
     looked_for wanted.channel wanted.session wanted.stream log (record {
       is_image = both.is_image;
@@ -183,7 +183,7 @@ is_new s event image log made has both =
 
 -- ---- behind an event
 
-one_number : (s : State) (event : Event) (inputs : Inputs) (log other : Source) → HasUniqueImages s →
+one_number : (s : State) (event : Event) (inputs : Inputs) (log other : LogRow) → HasUniqueImages s →
     Contains (state_after s event inputs).streams.sources log →
     Contains (state_after s event inputs).streams.sources other → AreOfOnePublisher log other → log.number ≡ other.number
 unfolding ruled
@@ -193,11 +193,11 @@ one_number s event inputs log other before has stands both =
     (λ (was : WasLive s.streams log).
     ⊎_elim
     (λ (was' : WasLive s.streams other).
-    ap (λ (p : Source). p.number) was.same
-    ∙ ap (λ (p : Source). p.number)
+    ap (λ (p : LogRow). p.number) was.same
+    ∙ ap (λ (p : LogRow). p.number)
     (before.one was.before was'.before was.stood was'.stood
     (were_of_one log other was.before was'.before was.same was'.same both))
-    ∙ sym (ap (λ (p : Source). p.number) was'.same))
+    ∙ sym (ap (λ (p : LogRow). p.number) was'.same))
     (λ (made : IsImageMadeBy at event other).
     absurd (is_new at event other was.before made was.stood
     (were_of_one log other was.before other was.same refl both)))
@@ -213,10 +213,10 @@ one_number s event inputs log other before has stands both =
     (images_come s event inputs log has both.is_image)
 
 -- the one that is looked for is found
-only_found : (logs : List Source) (channel : Shape) (session stream : ℤ) (log : Source) →
-    ((one other : Source) → Contains logs one → Contains logs other → AreOfOnePublisher one other → one ≡ other) →
+only_found : (logs : List LogRow) (channel : Shape) (session stream : ℤ) (log : LogRow) →
+    ((one other : LogRow) → Contains logs one → Contains logs other → AreOfOnePublisher one other → one ≡ other) →
     Contains logs log → is_image_at channel session stream log ≡ true →
-    (found : Option Source) → find (is_image_at channel session stream) logs ≡ found → found ≡ Some log
+    (found : Option LogRow) → find (is_image_at channel session stream) logs ≡ found → found ≡ Some log
 only_found logs channel session stream log unique has is None found =
     let none = none_found (is_image_at channel session stream) logs (ap is_some found) log has in
     let never : false ≡ true = sym none ∙ is in
@@ -230,7 +230,7 @@ only_found logs channel session stream log unique has is (Some other) found =
     (is_at channel session stream log is)))
 
 are_unique : (s : State) →
-    ((log other : Source) → Contains s.streams.sources log → Contains s.streams.sources other →
+    ((log other : LogRow) → Contains s.streams.sources log → Contains s.streams.sources other →
     AreOfOnePublisher log other → log ≡ other) →
     HasUniqueImages s
 are_unique s unique = record {
@@ -244,7 +244,7 @@ stay_unique : (s : State) (event : Event) (inputs : Inputs) → AreRising s → 
 stay_unique s event inputs rises before =
     let after : State = state_after s event inputs in
     are_unique after (λ log other has stands both.
-    rises_unique (λ (p : Source). p.number) 0 after.last_number after.streams.sources log other
+    rises_unique (λ (p : LogRow). p.number) 0 after.last_number after.streams.sources log other
     (event_rises s event inputs rises).rises.sources has stands
     (one_number s event inputs log other before has stands both))
 

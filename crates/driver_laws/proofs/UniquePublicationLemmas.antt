@@ -7,10 +7,10 @@ use Rattle.std.specs.Prelude.{FitsSigned}
 use Rattle.std.proofs.lemmas.Bool.{and_parts, eq-eqb}
 use Rattle.std.proofs.lemmas.Bool.Decides.{Decides-int_eq}
 use Rattle.std.proofs.lemmas.List.Filters.{length-filter_both}
-use Rattle.driver_core.specs.declared.event.Event.{Event}
-use Rattle.driver_core.specs.declared.event.Inputs.{Inputs}
-use Rattle.driver_core.specs.declared.peer.Peer.{Peer}
-use Rattle.driver_core.specs.declared.settings.Settings.{Settings}
+use Rattle.driver_core.specs.declared.state.event.Event.{Event}
+use Rattle.driver_core.specs.declared.state.event.Inputs.{Inputs}
+use Rattle.driver_core.specs.declared.state.peer.Peer.{Peer}
+use Rattle.driver_core.specs.declared.state.settings.Settings.{Settings}
 use Rattle.driver_core.specs.Conduct.{coming_to, state_after, state_of}
 use Rattle.driver_core.specs.PublicationRequests.{is_sent_as}
 use Rattle.driver_core.specs.Publishing.{published}
@@ -31,7 +31,7 @@ use Rattle.stream_registry.specs.declared.fault.StreamFault.{StreamFault}
 use Rattle.stream_registry.specs.declared.fault.StreamFault.TheVariants.{Conflict, Full}
 use Rattle.stream_registry.specs.declared.row.Origin.{Origin}
 use Rattle.stream_registry.specs.declared.row.Origin.TheVariants.{Published, Remote}
-use Rattle.stream_registry.specs.declared.row.Source.{Source}
+use Rattle.stream_registry.specs.declared.row.LogRow.{LogRow}
 use Rattle.stream_registry.specs.declared.wanted.Adding.{Adding}
 use Rattle.stream_registry.specs.declared.wanted.Adding.TheVariants.{Join, Make}
 use Rattle.stream_registry.specs.declared.wanted.Wanted.{Wanted}
@@ -62,7 +62,7 @@ never_makes true room number joined session is = absurd (cc is)
 never_makes false true number joined session is = absurd (cc is)
 never_makes false false number joined session is = absurd (cc is)
 
-joins_none : (s : Streams) (wanted : Wanted) (session : ℤ) (found : Option Source) →
+joins_none : (s : Streams) (wanted : Wanted) (session : ℤ) (found : Option LogRow) →
     adding_by s wanted found ≡ Ok (Make session) → making_of s wanted ≡ Ok (Make session)
 unfolding joining_of
 joins_none s wanted session None is = is
@@ -100,12 +100,12 @@ new_session s wanted session is =
     (has_room_for_registration s && has_room_for_log s) (session_of s wanted.channel) session is in
     record { new = parts.0; session_is = parts.1 }
 
-has_it : (log : Source) (session : ℤ) → is_published log ≡ true → log.session ≡ session → has_session session log ≡ true
+has_it : (log : LogRow) (session : ℤ) → is_published log ≡ true → log.session ≡ session → has_session session log ≡ true
 has_it log session published is =
     let same : int_eq log.session session ≡ true = (Decides-int_eq log.session session).1 is in
     rw (published, same) refl
 
-has_it_at : (log : Source) (media : Media) (stream session : ℤ) → is_published log ≡ true →
+has_it_at : (log : LogRow) (media : Media) (stream session : ℤ) → is_published log ≡ true →
     log.channel.media ≡ media → log.stream ≡ stream → log.session ≡ session → has_session_at media stream session log ≡ true
 unfolding has_session_at
 has_it_at log media stream session published medium stream_is session_is =
@@ -117,7 +117,7 @@ has_it_at log media stream session published medium stream_is session_is =
 
 -- no live publication of its medium and stream has it
 own_by : (s : Streams) (wanted : Wanted) (session : ℤ) (stated : Option ℤ) → stated_session_of wanted.channel ≡ stated →
-    FitsSigned w32 s.next_session → length s.sources < 2 ^ 32 → IsNewSession s wanted session → (log : Source) →
+    FitsSigned w32 s.next_session → length s.sources < 2 ^ 32 → IsNewSession s wanted session → (log : LogRow) →
     Contains s.sources log → is_published log ≡ true → log.channel.media ≡ wanted.channel.media → log.stream ≡ wanted.stream →
     log.session ≡ session → ⊥
 own_by s wanted session None stated fits few is log has published media stream same =
@@ -142,11 +142,11 @@ origin_kind : (origin : Origin) → is_published_by (unlingering origin) ≡ is_
 origin_kind (Published exclusive since) = refl
 origin_kind (Remote address initial_term join) = refl
 
-pub kind_alike : (log other : Source) → IsSameLog log other → is_published log ≡ is_published other
+pub kind_alike : (log other : LogRow) → IsSameLog log other → is_published log ≡ is_published other
 kind_alike log other same =
-    sym (origin_kind log.origin) ∙ ap (λ (p : Source). is_published p) same ∙ origin_kind other.origin
+    sym (origin_kind log.origin) ∙ ap (λ (p : LogRow). is_published p) same ∙ origin_kind other.origin
 
-other_way : (log other : Source) → AreOfOneStream log other → AreOfOneStream other log
+other_way : (log other : LogRow) → AreOfOneStream log other → AreOfOneStream other log
 other_way log other both = record {
   published = both.other_published;
   other_published = both.published;
@@ -155,22 +155,22 @@ other_way log other both = record {
   session = sym both.session;
 }
 
-were_of_one : (log other before another : Source) → IsSameLog log before → IsSameLog other another →
+were_of_one : (log other before another : LogRow) → IsSameLog log before → IsSameLog other another →
     AreOfOneStream log other → AreOfOneStream before another
 were_of_one log other before another one two both = record {
   published = sym (kind_alike log before one) ∙ both.published;
   other_published = sym (kind_alike other another two) ∙ both.other_published;
-  media = sym (ap (λ (p : Source). p.channel.media) one) ∙ both.media ∙ ap (λ (p : Source). p.channel.media) two;
-  stream = sym (ap (λ (p : Source). p.stream) one) ∙ both.stream ∙ ap (λ (p : Source). p.stream) two;
-  session = sym (ap (λ (p : Source). p.session) one) ∙ both.session ∙ ap (λ (p : Source). p.session) two;
+  media = sym (ap (λ (p : LogRow). p.channel.media) one) ∙ both.media ∙ ap (λ (p : LogRow). p.channel.media) two;
+  stream = sym (ap (λ (p : LogRow). p.stream) one) ∙ both.stream ∙ ap (λ (p : LogRow). p.stream) two;
+  session = sym (ap (λ (p : LogRow). p.session) one) ∙ both.session ∙ ap (λ (p : LogRow). p.session) two;
 }
 
 -- ---- a publication that comes
 
-image_unpublished : (s : State) (event : Event) (log : Source) → IsImageMadeBy s event log → is_published log ≡ false
+image_unpublished : (s : State) (event : Event) (log : LogRow) → IsImageMadeBy s event log → is_published log ≡ false
 image_unpublished s event log made = ap is_published made.log_is
 
-pub publications_come : (s : State) (event : Event) (inputs : Inputs) (log : Source) →
+pub publications_come : (s : State) (event : Event) (inputs : Inputs) (log : LogRow) →
     Contains (state_after s event inputs).streams.sources log → is_published log ≡ true →
     WasLive s.streams log ⊎ IsLogMadeBy (coming_to s event) event log
 unfolding ruled
@@ -189,23 +189,23 @@ record HasRoom (s : State) : Type 0 where
   few : length s.streams.sources < 2 ^ 32
 
 -- none of its medium and stream had its session
-is_new : (s : State) (event : Event) (new log : Source) → HasRoom s → IsLogMadeBy s event new → Contains s.streams.sources log →
+is_new : (s : State) (event : Event) (new log : LogRow) → HasRoom s → IsLogMadeBy s event new → Contains s.streams.sources log →
     AreOfOneStream log new → ⊥
 is_new s event new log room made has both =
     let wanted : Wanted = wanted_by made.registered.request in
     let adding : adding_of s.streams wanted ≡ Ok (Make made.session) = made.registered.adding_is ∙ ap Ok made.makes in
     own_by s.streams wanted made.session (stated_session_of wanted.channel) refl room.counted room.few
     (new_session s.streams wanted made.session (makes_log s.streams wanted made.session adding)) log has both.published
-    (both.media ∙ ap (λ (p : Source). p.channel.media) made.made_is)
-    (both.stream ∙ ap (λ (p : Source). p.stream) made.made_is)
-    (both.session ∙ ap (λ (p : Source). p.session) made.made_is)
+    (both.media ∙ ap (λ (p : LogRow). p.channel.media) made.made_is)
+    (both.stream ∙ ap (λ (p : LogRow). p.stream) made.made_is)
+    (both.session ∙ ap (λ (p : LogRow). p.session) made.made_is)
 
-made_number : (s : State) (event : Event) (log : Source) → IsLogMadeBy s event log → log.number ≡ s.last_number + 1
-made_number s event log made = ap (λ (p : Source). p.number) made.made_is
+made_number : (s : State) (event : Event) (log : LogRow) → IsLogMadeBy s event log → log.number ≡ s.last_number + 1
+made_number s event log made = ap (λ (p : LogRow). p.number) made.made_is
 
 -- ---- behind an event
 
-one_number : (s : State) (event : Event) (inputs : Inputs) (log other : Source) → HasRoom s → HasUniquePublications s →
+one_number : (s : State) (event : Event) (inputs : Inputs) (log other : LogRow) → HasRoom s → HasUniquePublications s →
     Contains (state_after s event inputs).streams.sources log →
     Contains (state_after s event inputs).streams.sources other → AreOfOneStream log other → log.number ≡ other.number
 unfolding ruled
@@ -216,11 +216,11 @@ one_number s event inputs log other room before has stands both =
     (λ (was : WasLive s.streams log).
     ⊎_elim
     (λ (was' : WasLive s.streams other).
-    ap (λ (p : Source). p.number) was.same
-    ∙ ap (λ (p : Source). p.number)
+    ap (λ (p : LogRow). p.number) was.same
+    ∙ ap (λ (p : LogRow). p.number)
     (before.one was.before was'.before was.stood was'.stood
     (were_of_one log other was.before was'.before was.same was'.same both))
-    ∙ sym (ap (λ (p : Source). p.number) was'.same))
+    ∙ sym (ap (λ (p : LogRow). p.number) was'.same))
     (λ (made : IsLogMadeBy at event other).
     absurd (is_new at event other was.before room' made was.stood
     (were_of_one log other was.before other was.same refl both)))
@@ -242,13 +242,13 @@ udp_is Udp is = refl
 udp_is Ipc is = absurd (cc is)
 udp_is Counter is = absurd (cc is)
 
-record IsSent (session stream : ℤ) (log : Source) : Type 0 where
+record IsSent (session stream : ℤ) (log : LogRow) : Type 0 where
   published : is_published log ≡ true
   media : log.channel.media ≡ Udp
   session_is : log.session ≡ session
   stream_is : log.stream ≡ stream
 
-sent_parts : (session stream : ℤ) (log : Source) → is_sent_as session stream log ≡ true → IsSent session stream log
+sent_parts : (session stream : ℤ) (log : LogRow) → is_sent_as session stream log ≡ true → IsSent session stream log
 sent_parts session stream log is =
     let first = and_parts _ _ is in
     let second = and_parts _ _ first.0 in
@@ -260,7 +260,7 @@ sent_parts session stream log is =
       stream_is = (Decides-int_eq log.stream stream).0 first.1;
     }
 
-at_one : (session stream : ℤ) (log other : Source) → IsSent session stream log → IsSent session stream other →
+at_one : (session stream : ℤ) (log other : LogRow) → IsSent session stream log → IsSent session stream other →
     AreOfOneStream log other
 at_one session stream log other one two = record {
   published = one.published;
@@ -270,9 +270,9 @@ at_one session stream log other one two = record {
   session = one.session_is ∙ sym two.session_is;
 }
 
-only_found : (logs : List Source) (session stream : ℤ) (log : Source) →
-    ((one other : Source) → Contains logs one → Contains logs other → AreOfOneStream one other → one ≡ other) →
-    Contains logs log → is_sent_as session stream log ≡ true → (found : Option Source) →
+only_found : (logs : List LogRow) (session stream : ℤ) (log : LogRow) →
+    ((one other : LogRow) → Contains logs one → Contains logs other → AreOfOneStream one other → one ≡ other) →
+    Contains logs log → is_sent_as session stream log ≡ true → (found : Option LogRow) →
     find (is_sent_as session stream) logs ≡ found → found ≡ Some log
 only_found logs session stream log unique has is None found =
     let none = none_found (is_sent_as session stream) logs (ap is_some found) log has in
@@ -285,7 +285,7 @@ only_found logs session stream log unique has is (Some other) found =
     (at_one session stream other log (sent_parts session stream other there.passes) (sent_parts session stream log is)))
 
 are_unique : (s : State) →
-    ((log other : Source) → Contains s.streams.sources log → Contains s.streams.sources other → AreOfOneStream log other →
+    ((log other : LogRow) → Contains s.streams.sources log → Contains s.streams.sources other → AreOfOneStream log other →
     log ≡ other) →
     HasUniquePublications s
 are_unique s unique = record {
@@ -325,7 +325,7 @@ stays_unique settings s event inputs holds =
       within = event_within s event inputs holds.timely holds.owned holds.within;
       counted = event_counted settings s event inputs holds.counted;
       unique = are_unique after' (λ log other has stands both.
-          rises_unique (λ (p : Source). p.number) 0 after'.last_number after'.streams.sources log other rises.sources has stands
+          rises_unique (λ (p : LogRow). p.number) 0 after'.last_number after'.streams.sources log other rises.sources has stands
           (one_number s event inputs log other
           (record { counted = holds.counted.0; few = few_logs s holds.within }) holds.unique has stands both));
     }

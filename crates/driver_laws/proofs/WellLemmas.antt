@@ -3,38 +3,37 @@ use Rattle.std.proofs.Common.{◌≡◌, ℕ, ◌==◌, not, nat_lt, Bool, true,
 use Rattle.std.specs.List.{All}
 use Rattle.std.proofs.lemmas.Bool.{cond_both}
 use Rattle.std.proofs.lemmas.List.Elements.{All-nil}
-use Rattle.any_log.specs.Asking.{after_status as after_hearing}
-use Rattle.any_log.specs.Reporting.{after_report}
-use Rattle.any_log.specs.Sending.{after_turn}
-use Rattle.any_log.specs.Whole.{AnyWhole, whole, rebuilt, beaten, polled as any_polled, position_in, received, rejoined}
+use Rattle.log_traffic.specs.Asking.{after_status as after_hearing}
+use Rattle.log_traffic.specs.Reporting.{after_report}
+use Rattle.log_traffic.specs.Sending.{after_turn}
+use Rattle.log_traffic.specs.Whole.{AnyWhole, whole, rebuilt, beaten, polled as any_polled, position_in, received, rejoined}
 use Rattle.channel_uri.specs.declared.address.Address.{Address}
-use Rattle.driver_core.specs.declared.event.Event.TheVariants.{Setup as SetUp}
-use Rattle.driver_core.specs.declared.image_request.Astray.{Astray}
-use Rattle.driver_core.specs.declared.log_request.LogRequest.{LogRequest}
-use Rattle.driver_core.specs.declared.peer.Peer.{Peer}
-use Rattle.driver_core.specs.declared.settings.Settings.{Settings}
+use Rattle.driver_core.specs.declared.state.event.Event.TheVariants.{Setup as SetUp}
+use Rattle.driver_core.specs.declared.asked.image_request.Astray.{Astray}
+use Rattle.driver_core.specs.declared.asked.log_request.LogRequest.{LogRequest}
+use Rattle.driver_core.specs.declared.state.peer.Peer.{Peer}
+use Rattle.driver_core.specs.declared.state.settings.Settings.{Settings}
 use Rattle.driver_core.specs.LogRequests.{offering_of, receiving_of}
 use Rattle.driver_core.specs.PublicationRequests.{joining_of, publisher_of, resending_of}
 use Rattle.driver_core.specs.Readers.{readers_of}
 use Rattle.driver_core.specs.SendRequests.{sending_of}
 use Rattle.driver_core.specs.State.{State}
 use Rattle.driver_laws.proofs.WholeLemmas.{IsWell, cut_ident, heard_ident, offered_ident, well_begins, well_cuts, well_hears, well_offers, with_readers}
-use Rattle.driver_steps.specs.declared.answer.Answer.{Answer}
-use Rattle.driver_steps.specs.declared.answer.Answer.TheVariants.{Offered as OfferedAs, Gone as IsGone}
-use Rattle.driver_steps.specs.declared.answer.Offered.TheVariants.{Closed}
+use Rattle.log_steps.specs.declared.answer.Answer.{Answer}
+use Rattle.log_steps.specs.declared.answer.Answer.TheVariants.{Offered as OfferedAs, Gone as IsGone}
+use Rattle.log_steps.specs.declared.answer.Offered.TheVariants.{Closed}
 use Rattle.driver_steps.specs.declared.step.Step.{Step}
 use Rattle.driver_steps.specs.declared.step.Step.TheVariants.{Conductor, Packet, Offer as Offers, Poll as Polls, Image, List as Lists, Send, Value}
-use Rattle.driver_steps.specs.Ends.{RunEnd, on_asked, on_image, on_offered_by, on_report_by, on_told, opening_end}
-use Rattle.driver_core.specs.declared.publication_request.JoinRequest.{JoinRequest}
-use Rattle.driver_steps.proofs.HearingLemmas.{status_whole}
-use Rattle.driver_steps.specs.Hearing.{nak_move, status_move}
-use Rattle.driver_steps.specs.Idents.{begins_by, ident_of}
-use Rattle.driver_steps.specs.Moves.{WholeLog, Move, offer_move, offer_to, offer_under, poll_move, poll_under}
-use Rattle.driver_steps.specs.Receiving.{beat_move, receive_move, unheard}
-use Rattle.driver_steps.specs.Reporting.{report_move}
+use Rattle.driver_steps.specs.Ends.{image_by, moved_by, on_asked, on_image, on_offered, on_packet, on_report, on_told, opening_end, RunEnd}
+use Rattle.driver_core.specs.declared.asked.publication_request.JoinRequest.{JoinRequest}
+use Rattle.log_steps.proofs.HearingLemmas.{status_whole}
+use Rattle.log_steps.specs.Hearing.{nak_move, status_move}
+use Rattle.log_steps.specs.Idents.{begins_by, ident_of}
+use Rattle.log_steps.specs.Moves.{WholeLog, Move, offer_move, offer_to, offer_under, poll_move, poll_under}
+use Rattle.log_steps.specs.Receiving.{beat_move, receive_move, unheard}
+use Rattle.log_steps.specs.Reporting.{report_move}
 use Rattle.driver_steps.specs.Runs.{Reading, end_of}
-use Rattle.driver_steps.specs.Seen.{image_seen, moved_seen, packet_seen}
-use Rattle.driver_steps.specs.Sending.{pace_of, send_by, send_move}
+use Rattle.log_steps.specs.Sending.{pace_of, send_by, send_move}
 use Rattle.driver_steps.proofs.EndLemmas.{run_keeps}
 use Rattle.driver_steps.proofs.LiveLemmas.{IsKept, event_keeps, log_keeps}
 use Rattle.frame_codec.specs.declared.fault.BadPacket.{BadPacket}
@@ -45,11 +44,11 @@ use Rattle.frame_codec.specs.Datagram.{Content, frames, beat, nak, status, setup
 use Rattle.frame_codec.specs.Frame.{Sent}
 use Rattle.policy_core.specs.declared.verdict.Verdict.{Verdict}
 use Rattle.policy_core.specs.RuleList.{Rules}
-use Rattle.publication_sender.specs.declared.cutting.Pace.{Pace}
-use Rattle.publication_sender.specs.Cutting.{cut_of}
+use Rattle.log_traffic.specs.declared.cutting.Pace.{Pace}
+use Rattle.log_traffic.specs.Cutting.{cut_of}
 use Rattle.stream_registry.specs.declared.row.Origin.{Origin}
 use Rattle.stream_registry.specs.declared.row.Origin.TheVariants.{Published, Remote}
-use Rattle.stream_registry.specs.declared.row.Source.{Source}
+use Rattle.stream_registry.specs.declared.row.LogRow.{LogRow}
 use Rattle.term_log.specs.Ident.{IsIdent, is_udp}
 use Rattle.term_log.specs.Log.{greatest_message}
 use Rattle.term_log.specs.Whole.{Whole, is_connected, offered, polled as term_polled, polled_from, rejoined as term_rejoined}
@@ -66,7 +65,7 @@ WellLog log = WellIf log.whole
 
 -- ---- events
 
-begins_well : (settings : Settings) (now : ℕ) (log : Source) (origin : Origin) → WellIf (begins_by settings now log origin)
+begins_well : (settings : Settings) (now : ℕ) (log : LogRow) (origin : Origin) → WellIf (begins_by settings now log origin)
 begins_well settings now log (Published exclusive since) = well_begins (ident_of settings log)
 begins_well settings now log (Remote address initial_term join) = tt
 
@@ -124,7 +123,7 @@ offer_under_well s now message log (Some request) well =
     (λ _. offer_to_well now s.settings.connection_timeout request.decision.verdict message log log.whole refl well)
 
 offer_well : (s : State) (e : RunEnd) (now client registration : ℕ) (message : List ℕ) (o : Option LogRequest) → All WellLog e.logs →
-    All WellLog (on_offered_by s e now client registration message o).after.logs
+    All WellLog (on_offered s e now client registration message o).after.logs
 unfolding offer_move
 offer_well s e now client registration message None well = well
 offer_well s e now client registration message (Some request) well =
@@ -167,14 +166,14 @@ image_well e move (Ok source) keeps well =
     log_keeps WellLog e source move unheard (λ log found there. keeps log there.holds) well
 
 packet_well : (s : State) (e : RunEnd) (now : ℕ) (local from : Address) (read : Result Content BadPacket) → All WellLog e.logs →
-    All WellLog (packet_seen s e now local from read).after.logs
+    All WellLog (on_packet s e now local from read).after.logs
 packet_well s e now local from (Err fault) well = well
 packet_well s e now local from (Ok (frames [])) well = well
 packet_well s e now local from (Ok (frames (frame ∷ later))) well =
-    image_well e (receive_move now (frame ∷ later)) (image_seen s e local from frame.header.place)
+    image_well e (receive_move now (frame ∷ later)) (image_by s e local from frame.header.place)
     (λ log. received_well now (frame ∷ later) log.whole) well
 packet_well s e now local from (Ok (beat header)) well =
-    image_well e (beat_move now header.place) (image_seen s e local from header.place) (λ log. beaten_well now header.place log.whole) well
+    image_well e (beat_move now header.place) (image_by s e local from header.place) (λ log. beaten_well now header.place log.whole) well
 packet_well s e now local from (Ok (setup fields)) well = event_keeps WellLog e (SetUp now local from fields) well_kept well
 packet_well s e now local from (Ok (nak fields)) well =
     asked_well e now from fields (resending_of s from fields.session_id fields.stream_id) well
@@ -201,7 +200,7 @@ report_well now receiver (whole w) well = well
 report_well now receiver (rebuilt r) well = tt
 
 report_by_well : (s : State) (e : RunEnd) (now source : ℕ) (to : Option Address) → All WellLog e.logs →
-    All WellLog (on_report_by s e now source to).after.logs
+    All WellLog (on_report s e now source to).after.logs
 report_by_well s e now source None well = well
 report_by_well s e now source (Some to) well =
     log_keeps WellLog e source (report_move now s.settings.receiver_id to) IsGone
@@ -209,7 +208,7 @@ report_by_well s e now source (Some to) well =
 
 -- ---- any step
 
-moved_well : (s : State) (e : RunEnd) (step : Step) → All WellLog e.logs → All WellLog (moved_seen s e step).after.logs
+moved_well : (s : State) (e : RunEnd) (step : Step) → All WellLog e.logs → All WellLog (moved_by s e step).after.logs
 unfolding poll_move send_move
 moved_well s e (Conductor event) well = event_keeps WellLog e event well_kept well
 moved_well s e (Packet now local from bytes) well = packet_well s e now local from (packet_of bytes) well

@@ -5,10 +5,10 @@ use Rattle.std.specs.List.{Contains}
 use Rattle.std.specs.Prelude.{FitsSigned}
 use Rattle.command_codec.specs.declared.add_publication.AddPublication.{AddPublication}
 use Rattle.command_codec.specs.declared.command.Body.TheVariants as bodies
-use Rattle.driver_core.specs.declared.event.Event.{Event}
-use Rattle.driver_core.specs.declared.event.Inputs.{Inputs}
-use Rattle.driver_core.specs.declared.peer.Peer.{Peer}
-use Rattle.driver_core.specs.declared.settings.Settings.{Settings}
+use Rattle.driver_core.specs.declared.state.event.Event.{Event}
+use Rattle.driver_core.specs.declared.state.event.Inputs.{Inputs}
+use Rattle.driver_core.specs.declared.state.peer.Peer.{Peer}
+use Rattle.driver_core.specs.declared.state.settings.Settings.{Settings}
 use Rattle.driver_core.specs.Conduct.{coming_to, state_after, state_of}
 use Rattle.driver_core.specs.Requests.{AsksToPublish, PublicationRequest, publication_body, wanted_by}
 use Rattle.driver_core.specs.State.{State, opened, ruled}
@@ -20,7 +20,7 @@ use Rattle.driver_laws.proofs.CountedLemmas.{IsCounted, event_counted}
 use Rattle.driver_laws.proofs.ReadWidthLemmas.{HasStreamOf32Bits, command_fits, own_session_fits}
 use Rattle.driver_laws.proofs.UniquePublicationLemmas.{kind_alike, makes_log, new_session, publications_come}
 use Rattle.policy_core.specs.RuleList.{Rules}
-use Rattle.stream_registry.specs.declared.row.Source.{Source}
+use Rattle.stream_registry.specs.declared.row.LogRow.{LogRow}
 use Rattle.stream_registry.specs.declared.wanted.Adding.TheVariants.{Make}
 use Rattle.stream_registry.specs.declared.wanted.Wanted.{Wanted}
 use Rattle.stream_registry.specs.Adding.{adding_of}
@@ -28,10 +28,10 @@ use Rattle.stream_registry.specs.Origins.{is_published}
 
 -- ---- a publication that was there
 
-still_fits : (log before : Source) → IsSameLog log before → IsOf32Bits before → IsOf32Bits log
+still_fits : (log before : LogRow) → IsSameLog log before → IsOf32Bits before → IsOf32Bits log
 still_fits log before same fits = record {
-  session = subst (FitsSigned w32) (sym (ap (λ (p : Source). p.session) same)) fits.session;
-  stream = subst (FitsSigned w32) (sym (ap (λ (p : Source). p.stream) same)) fits.stream;
+  session = subst (FitsSigned w32) (sym (ap (λ (p : LogRow). p.session) same)) fits.session;
+  stream = subst (FitsSigned w32) (sym (ap (λ (p : LogRow). p.stream) same)) fits.stream;
 }
 
 -- ---- one that is made
@@ -49,7 +49,7 @@ asked_fits s handle bytes request asks =
     (command_fits bytes (record { client = handle; correlation = request.correlation; body = publication_body request })
     asks.asks.command)
 
-made_fits : (s : State) (event : Event) (log : Source) → FitsSigned w32 s.streams.next_session → IsLogMadeBy s event log →
+made_fits : (s : State) (event : Event) (log : LogRow) → FitsSigned w32 s.streams.next_session → IsLogMadeBy s event log →
     IsOf32Bits log
 made_fits s event log counted made =
     let request : PublicationRequest = made.registered.request in
@@ -57,9 +57,9 @@ made_fits s event log counted made =
     let adding : adding_of s.streams wanted ≡ Ok (Make made.session) = made.registered.adding_is ∙ ap Ok made.makes in
     let own = (new_session s.streams wanted made.session (makes_log s.streams wanted made.session adding)).session_is in
     record {
-      session = subst (FitsSigned w32) (own ∙ sym (ap (λ (p : Source). p.session) made.made_is))
+      session = subst (FitsSigned w32) (own ∙ sym (ap (λ (p : LogRow). p.session) made.made_is))
           (own_session_fits s.streams wanted.channel counted);
-      stream = subst (FitsSigned w32) (sym (ap (λ (p : Source). p.stream) made.made_is))
+      stream = subst (FitsSigned w32) (sym (ap (λ (p : LogRow). p.stream) made.made_is))
           (asked_fits s made.registration.client made.registered.bytes request made.registered.asks);
     }
 
@@ -67,7 +67,7 @@ made_fits s event log counted made =
 
 record Holds (settings : Settings) (s : State) : Type 0 where
   counted : IsCounted settings s
-  publications : (log : Source) → Contains s.streams.sources log → is_published log ≡ true → IsOf32Bits log
+  publications : (log : LogRow) → Contains s.streams.sources log → is_published log ≡ true → IsOf32Bits log
 
 stay_fit : (settings : Settings) (s : State) (event : Event) (inputs : Inputs) → Holds settings s →
     Holds settings (state_after s event inputs)

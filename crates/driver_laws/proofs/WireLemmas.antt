@@ -8,13 +8,13 @@ use Rattle.std.proofs.lemmas.Nat.{div-add-mod', div-mul-add}
 use Rattle.driver_laws.specs.Wire.{AreOneDatagram, CarryExactly, IsDatagramTo, frames_named, wire_bytes, written_at}
 use Rattle.frame_codec.specs.declared.nak.Nak.{Nak}
 use Rattle.frame_codec.specs.Written.{written_bytes}
-use Rattle.publication_sender.specs.declared.cutting.DatagramKind.{DatagramKind}
-use Rattle.publication_sender.specs.declared.cutting.DatagramKind.TheVariants as kinds
-use Rattle.publication_sender.specs.declared.cutting.Pace.{Pace}
-use Rattle.publication_sender.specs.Cutting.{after_due, beat_flags, bytes_as, cut_of, datagram_of, due_among, due_of, frames_bytes, has_frames, setup_at}
-use Rattle.publication_sender.specs.ResendLaws.{ArePacked, IsSound, joined}
-use Rattle.publication_sender.specs.Resending.{resent_of}
-use Rattle.publication_sender.proofs.PackingLemmas.{resends_carry}
+use Rattle.log_traffic.specs.declared.cutting.DatagramKind.{DatagramKind}
+use Rattle.log_traffic.specs.declared.cutting.DatagramKind.TheVariants as kinds
+use Rattle.log_traffic.specs.declared.cutting.Pace.{Pace}
+use Rattle.log_traffic.specs.Cutting.{after_due, beat_flags, bytes_as, cut_of, datagram_of, due_among, due_of, frames_bytes, has_frames, setup_at}
+use Rattle.log_traffic.specs.ResendLaws.{ArePacked, IsSound, joined}
+use Rattle.log_traffic.specs.Resending.{resent_of}
+use Rattle.log_traffic.proofs.PackingLemmas.{resends_carry}
 use Rattle.term_log.proofs.Sizes.{length-data_bytes, length-pad_bytes}
 use Rattle.term_log.specs.declared.ident.Ident.{Ident}
 use Rattle.term_log.specs.Frames.{Frame, fragment, front_of, pad, pad_flags, span, total}

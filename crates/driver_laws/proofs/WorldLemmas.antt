@@ -4,8 +4,8 @@ use Rattle.std.specs.Prelude.{nat_lt}
 use Rattle.std.proofs.lemmas.Bool.{eqb-true, le-ltb}
 use Rattle.std.proofs.lemmas.Bool.Decides.{nat_tests}
 use Rattle.channel_uri.specs.declared.address.Address.{Address}
-use Rattle.driver_core.specs.declared.event.Event.{Event}
-use Rattle.driver_core.specs.declared.event.Inputs.{Inputs}
+use Rattle.driver_core.specs.declared.state.event.Event.{Event}
+use Rattle.driver_core.specs.declared.state.event.Inputs.{Inputs}
 use Rattle.driver_core.specs.Conduct.{state_of}
 use Rattle.driver_core.specs.State.{State, opened}
 use Rattle.driver_laws.specs.LearningLaws.{AddressesComeAndGoBy}
@@ -17,17 +17,15 @@ use Rattle.driver_laws.proofs.OlderLookLemmas.{looks_by_any}
 use Rattle.driver_laws.proofs.OlderLemmas.{offers_by_any, polls_by_any}
 use Rattle.driver_laws.proofs.OlderNakLemmas.{naks_by_any}
 use Rattle.driver_laws.proofs.OlderSendLemmas.{sends_by_any}
-use Rattle.driver_steps.specs.declared.answer.Answer.{Answer}
-use Rattle.driver_steps.specs.declared.answer.Answer.TheVariants.{NoMemory, Polled}
+use Rattle.log_steps.specs.declared.answer.Answer.{Answer}
+use Rattle.log_steps.specs.declared.answer.Answer.TheVariants.{NoMemory, Polled}
 use Rattle.driver_steps.specs.declared.step.Step.{Step}
 use Rattle.driver_steps.specs.declared.step.Step.TheVariants as steps
 use Rattle.driver_steps.specs.Ends as driver
 use Rattle.driver_steps.specs.Laws.{ComeFromLog, event_in, event_of, granted_in, taken_by, taken_from}
 use Rattle.driver_steps.specs.Runs as runs
-use Rattle.driver_steps.specs.Seen.{moved_seen}
 use Rattle.driver_steps.proofs.EndLemmas.{opening_is}
 use Rattle.driver_steps.proofs.LiveLemmas.{bytes_come}
-use Rattle.driver_steps.proofs.ReadLemmas.{by_seen}
 use Rattle.driver_world.specs.declared.actor.Actor.{Actor}
 use Rattle.driver_world.specs.declared.actor.Actor.TheVariants.{Client, Conductor, Receiver, Sender}
 use Rattle.driver_world.specs.declared.reading.Reading.{Reading}
@@ -39,6 +37,7 @@ use Rattle.driver_world.proofs.RunLemmas.{Goes, IsNewest, goes_as, is_drivers_ru
 use Rattle.frame_codec.specs.declared.fault.BadPacket.{BadPacket}
 use Rattle.frame_codec.specs.Datagram.{Content, frames, beat, nak, status, setup, packet_of}
 use Rattle.log_pairs.specs.Polling.{Fetched}
+use Rattle.driver_steps.specs.Ends.{moved_by}
 
 -- ---- the registry that is named
 
@@ -53,21 +52,14 @@ by_number e k is same =
     sym (newest_is e is) ∙ ap (registry_after e.past) (sym (eqb-true k (newest_of e.past) same))
 
 -- whether it is the newest or not
-seen_by : (e : RunEnd) (k : ℕ) (step : Step) → IsNewest e → (at : Bool) → (k == newest_of e.past) ≡ at →
-    runs.moved_by e.driver (cond at None (Some (registry_at e.past k))) step
-    ≡ moved_seen (registry_after e.past k) e.driver step
-seen_by e k step is true same =
-    sym (by_seen e.driver None step) ∙ ap (λ (s : State). moved_seen s e.driver step) (by_number e k is same)
-seen_by e k step is false same = refl
-
 read_is : (e : RunEnd) (k : ℕ) → IsNewest e → (at : Bool) → (k == newest_of e.past) ≡ at →
     runs.read_by e.driver (cond at None (Some (registry_at e.past k))) ≡ registry_after e.past k
 read_is e k is true same = by_number e k is same
 read_is e k is false same = refl
 
 looked_seen : (e : RunEnd) (k : ℕ) (step : Step) → IsNewest e →
-    runs.moved_by e.driver (older_at e.past k) step ≡ moved_seen (registry_after e.past k) e.driver step
-looked_seen e k step is = seen_by e k step is (k == newest_of e.past) refl
+    moved_by (runs.read_by e.driver (older_at e.past k)) e.driver step ≡ moved_by (registry_after e.past k) e.driver step
+looked_seen e k step is = ap (λ (s : State). moved_by s e.driver step) (read_is e k is (k == newest_of e.past) refl)
 
 looked_goes : (e : RunEnd) (actor : Actor) (k : ℕ) (step : Step) → IsNewest e → GoesBy e actor k step (looked e actor k step)
 looked_goes e actor k step is = record {

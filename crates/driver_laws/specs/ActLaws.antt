@@ -17,7 +17,7 @@ use Rattle.driver_steps.specs.Laws.{OfferRequest, PollRequest}
 use Rattle.driver_steps.specs.ResendLaws as naks
 use Rattle.driver_steps.specs.SendLaws as sends
 use Rattle.learnt_addresses.specs.declared.learnt_address.LearntAddress.{LearntAddress}
-use Rattle.stream_registry.specs.declared.row.Source.{Source}
+use Rattle.stream_registry.specs.declared.row.LogRow.{LogRow}
 use Rattle.stream_registry.specs.declared.row.Subscription.{Subscription}
 use Rattle.stream_registry.specs.Pairs as fitting
 
@@ -43,14 +43,14 @@ pub record RulesAskAsListed : Type 0 where
       (principal : ℕ) (reader : Subscription) → fitting.image_question principal reader ≡ asked (pair principal reader)
   pub polls : (request : PollRequest) → steps.poll_question request ≡ asked (poll request.client request.subscription)
   pub datagrams :
-      (log : Source) (to : Destination) → sends.send_question log to ≡ asked (datagram log to)
+      (log : LogRow) (to : Destination) → sends.send_question log to ≡ asked (datagram log to)
   pub learnt_datagrams :
-      (s : State) (log : Source) (to : LearntAddress) →
+      (s : State) (log : LogRow) (to : LearntAddress) →
       sends.learnt_question s log to ≡ asked (learnt_datagram s.peers to.address log)
   pub joins :
-      (s : State) (from : Address) (log : Source) → joins_of.join_question s from log ≡ asked (join s.peers from log)
+      (s : State) (from : Address) (log : LogRow) → joins_of.join_question s from log ≡ asked (join s.peers from log)
   pub resends :
-      (s : State) (from : Address) (log : Source) → naks.resend_question s from log ≡ asked (resend s.peers from log)
+      (s : State) (from : Address) (log : LogRow) → naks.resend_question s from log ≡ asked (resend s.peers from log)
   pub looks : (principal : ℕ) (row : Counter) → counter_rows.question_for principal row ≡ asked (look principal row)
   pub looks_at_logs :
-      (principal : ℕ) (log : Source) → listing.source_question principal log ≡ asked (look_at_log principal log)
+      (principal : ℕ) (log : LogRow) → listing.source_question principal log ≡ asked (look_at_log principal log)

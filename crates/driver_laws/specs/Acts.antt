@@ -1,7 +1,7 @@
 -- The table of acts: whose principal is asked for, by which act, on which channel and stream. It is written apart from the rules
 -- that ask a policy, and the laws cite it in place of what those ask. Own rules.
 use Rattle.std.specs.Prelude.{◌≡◌, ℕ, ℤ, pos, Bool, false, List, [], if◌then◌else◌, ◌⊎◌}
-use Rattle.driver_core.specs.declared.peer.Peer.{Peer}
+use Rattle.driver_core.specs.declared.state.peer.Peer.{Peer}
 use Rattle.driver_core.specs.PublicationRequests.{principal_at}
 use Rattle.driver_core.specs.Requests.{Asks, AsksToDirect, AsksToPublish, AsksToSubscribe, DestinationRequest, PublicationRequest, SubscriptionRequest}
 use Rattle.driver_core.specs.State.{State}
@@ -18,7 +18,7 @@ use Rattle.policy_core.specs.declared.act.Act.{Act}
 use Rattle.policy_core.specs.declared.act.Act.TheVariants.{Counter as MakeCounter, Destination as Direct, Image, Join, List as SeeCounter, Offer, Publish, PublishExclusive, Receive, Retransmit, Send, Spy, Subscribe, Terminate}
 use Rattle.policy_core.specs.Question.{Question}
 use Rattle.stream_registry.specs.declared.row.Registration.{Registration}
-use Rattle.stream_registry.specs.declared.row.Source.{Source}
+use Rattle.stream_registry.specs.declared.row.LogRow.{LogRow}
 use Rattle.stream_registry.specs.declared.row.Subscription.{Subscription}
 use Rattle.stream_registry.specs.Places.{is_manual}
 
@@ -37,23 +37,23 @@ pub data Asking : Type 0 where
   -- TERMINATE_DRIVER: the client
   termination : Client → Asking
   -- an offer: the client, its registration, the publication
-  offer : Client → Registration → Source → Asking
+  offer : Client → Registration → LogRow → Asking
   -- a pair: the subscriber's principal, the subscription
   pair : ℕ → Subscription → Asking
   -- a poll: the client, its subscription
   poll : Client → Subscription → Asking
   -- a datagram: the publication, the destination
-  datagram : Source → Destination → Asking
+  datagram : LogRow → Destination → Asking
   -- a datagram to an address that was learnt: the principals of addresses, the address, the publication
-  learnt_datagram : List Peer → Address → Source → Asking
+  learnt_datagram : List Peer → Address → LogRow → Asking
   -- a status message, where destinations are learnt: the principals of addresses, the address from which it came, the
   -- publication
-  join : List Peer → Address → Source → Asking
+  join : List Peer → Address → LogRow → Asking
   -- a NAK: the principals of addresses, the address from which it came, the publication
-  resend : List Peer → Address → Source → Asking
+  resend : List Peer → Address → LogRow → Asking
   -- a look at a counter of a client's, and at one of the driver's own: the principal of who looks, and what is looked at
   look : ℕ → Counter → Asking
-  look_at_log : ℕ → Source → Asking
+  look_at_log : ℕ → LogRow → Asking
 
 abbrev pub asks_for : ℕ → Act → Shape → ℤ → Question
 asks_for principal act channel stream = record { principal = principal; act = act; channel = channel; stream = stream }
@@ -67,7 +67,7 @@ drivers_channel = record { spy = false; media = Ipc; keys = [] }
 
 -- where a publication's destinations are named by hand the channel is the one that named it, and else the log's, with all
 -- its keys
-abbrev pub channel_sent : Source → Destination → Shape
+abbrev pub channel_sent : LogRow → Destination → Shape
 channel_sent log to = if is_manual log.channel then to.channel else log.channel
 
 abbrev pub asked : Asking → Question

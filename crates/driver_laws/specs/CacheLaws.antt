@@ -12,7 +12,7 @@ use Rattle.policy_core.specs.declared.verdict.Verdict.{Verdict}
 use Rattle.policy_core.specs.MomentLaws.{is_before}
 use Rattle.policy_core.specs.Moments.{steady_until}
 use Rattle.stream_registry.specs.declared.row.Registration.{Registration}
-use Rattle.stream_registry.specs.declared.row.Source.{Source}
+use Rattle.stream_registry.specs.declared.row.LogRow.{LogRow}
 use Rattle.stream_registry.specs.declared.row.Subscription.{Subscription}
 
 -- it was kept under the policy in force, at a moment from which on no rule of that began or ended up to the registry's
@@ -24,7 +24,7 @@ pub record IsStillSteady (s : State) (key : Key) : Type 0 where
 -- it is the verdict that the policy has now, on an offer by the registration of its number, or on a poll by the subscription
 pub record IsStillRight (s : State) (entry : Key × Verdict) : Type 0 where
   pub offered :
-      (client : Client) (registration : Registration) (log : Source) → client.principal ≡ entry.0.principal →
+      (client : Client) (registration : Registration) (log : LogRow) → client.principal ≡ entry.0.principal →
       Contains s.streams.registrations registration → Contains s.streams.sources log →
       registration.number ≡ entry.0.subject → log.number ≡ registration.source → entry.0.act ≡ Offer →
       entry.1 ≡ verdict_on s (asked (offer client registration log))

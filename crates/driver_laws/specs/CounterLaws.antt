@@ -1,11 +1,11 @@
 -- Over every list of events: which counters go, and what sets their values.
 use Rattle.std.specs.Prelude.{◌≡◌, ℕ, true, false, List, [], ◌∷◌, ◌++◌, Contains, ◌⊎◌}
 use Rattle.driver_core.specs.Change.{Change}
-use Rattle.driver_core.specs.declared.event.Event.{Event}
-use Rattle.driver_core.specs.declared.event.Event.TheVariants.{Command}
-use Rattle.driver_core.specs.declared.event.Inputs.{Inputs}
-use Rattle.driver_core.specs.declared.refusal.Refusal.TheVariants.{UnknownCounter}
-use Rattle.driver_core.specs.declared.replies.Reply.TheVariants.{OperationSuccess, UnavailableCounter}
+use Rattle.driver_core.specs.declared.state.event.Event.{Event}
+use Rattle.driver_core.specs.declared.state.event.Event.TheVariants.{Command}
+use Rattle.driver_core.specs.declared.state.event.Inputs.{Inputs}
+use Rattle.driver_core.specs.declared.state.refusal.Refusal.TheVariants.{UnknownCounter}
+use Rattle.driver_core.specs.declared.state.replies.Reply.TheVariants.{OperationSuccess, UnavailableCounter}
 use Rattle.driver_core.specs.Commands.{heard}
 use Rattle.driver_core.specs.Conduct.{coming_to, conduct, state_after}
 use Rattle.driver_core.specs.Renewal.{images_decided, images_told}

@@ -1,11 +1,11 @@
 -- Over every list of events: destinations are named as the policy in force says, each of a live publication.
 use Rattle.std.specs.Prelude.{◌≡◌, ℕ, ◌+◌, ◌<◌, ◌≤◌, ℤ, true, false, List, ◌∷◌, Contains, length, Some, ◌⊎◌}
 use Rattle.driver_core.specs.Change.{Change}
-use Rattle.driver_core.specs.declared.event.Event.{Event}
-use Rattle.driver_core.specs.declared.event.Event.TheVariants.{Command}
-use Rattle.driver_core.specs.declared.event.Inputs.{Inputs}
-use Rattle.driver_core.specs.declared.refusal.Refusal.TheVariants.{Conflict, Denied, Full}
-use Rattle.driver_core.specs.declared.replies.Reply.TheVariants.{OperationSuccess}
+use Rattle.driver_core.specs.declared.state.event.Event.{Event}
+use Rattle.driver_core.specs.declared.state.event.Event.TheVariants.{Command}
+use Rattle.driver_core.specs.declared.state.event.Inputs.{Inputs}
+use Rattle.driver_core.specs.declared.state.refusal.Refusal.TheVariants.{Conflict, Denied, Full}
+use Rattle.driver_core.specs.declared.state.replies.Reply.TheVariants.{OperationSuccess}
 use Rattle.driver_core.specs.Commands.{heard}
 use Rattle.driver_core.specs.Conduct.{coming_to, conduct, state_after, state_of}
 use Rattle.driver_core.specs.Renewal.{images_decided, images_told}
@@ -26,7 +26,7 @@ use Rattle.destinations.specs.declared.destination.Destination.{Destination}
 use Rattle.destinations.specs.Destinations.{DestinationList, added, has, has_room}
 use Rattle.destinations.specs.Laws.{IsOrderly}
 use Rattle.stream_registry.specs.declared.row.Registration.{Registration}
-use Rattle.stream_registry.specs.declared.row.Source.{Source}
+use Rattle.stream_registry.specs.declared.row.LogRow.{LogRow}
 use Rattle.stream_registry.specs.declared.wanted.Adding.TheVariants.{Make}
 use Rattle.stream_registry.specs.Origins.{is_published}
 
@@ -94,15 +94,15 @@ DestinationsAreGrantedExactly =
 -- ---- of live publications
 
 -- a publication of that number is live
-pub record HasPublication (logs : List Source) (source : ℕ) : Type 0 where
-  pub log : Source
+pub record HasPublication (logs : List LogRow) (source : ℕ) : Type 0 where
+  pub log : LogRow
   pub stands : Contains logs log
   pub source_is : log.number ≡ source
   pub published : is_published log ≡ true
 
 -- each is of a live publication; their numbers rise, so that no two are alike and none is above the one drawn last; no
 -- publication has more than 32 or an address twice, and all have no more than 8,192
-pub record AreOfLive (destinations : DestinationList) (logs : List Source) : Type 0 where
+pub record AreOfLive (destinations : DestinationList) (logs : List LogRow) : Type 0 where
   pub live :
       (destination : Destination) → Contains destinations.rows destination → HasPublication logs destination.source
   pub orderly : IsOrderly destinations

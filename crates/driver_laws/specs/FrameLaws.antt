@@ -1,20 +1,20 @@
 -- The frames of a publication's log are what allowed offers put there, in their order, each once. Own rules.
 use Rattle.std.specs.Prelude.{◌≡◌, ℕ, ◌==◌, ◌&&◌, List, [], ◌∷◌, ◌++◌, Option, Some, None, if◌then◌else◌}
-use Rattle.any_log.specs.Whole.{AnyWhole, whole, rebuilt}
-use Rattle.driver_core.specs.declared.log_request.LogRequest.{LogRequest}
-use Rattle.driver_core.specs.declared.peer.Peer.{Peer}
-use Rattle.driver_core.specs.declared.settings.Settings.{Settings}
+use Rattle.driver_core.specs.declared.asked.log_request.LogRequest.{LogRequest}
+use Rattle.driver_core.specs.declared.state.peer.Peer.{Peer}
+use Rattle.driver_core.specs.declared.state.settings.Settings.{Settings}
 use Rattle.driver_core.specs.LogRequests.{offering_of}
 use Rattle.driver_core.specs.State.{State}
-use Rattle.driver_steps.specs.declared.answer.Answer.{Answer}
-use Rattle.driver_steps.specs.declared.answer.Answer.TheVariants.{Offered as OfferedAs}
-use Rattle.driver_steps.specs.declared.answer.Offered.TheVariants.{AdminAction, At}
+use Rattle.log_steps.specs.declared.answer.Answer.{Answer}
+use Rattle.log_steps.specs.declared.answer.Answer.TheVariants.{Offered as OfferedAs}
+use Rattle.log_steps.specs.declared.answer.Offered.TheVariants.{AdminAction, At}
 use Rattle.driver_steps.specs.declared.step.Step.{Step}
 use Rattle.driver_steps.specs.declared.step.Step.TheVariants.{Offer}
 use Rattle.driver_steps.specs.Ends.{RunEnd, log_at, opening_end}
 use Rattle.driver_steps.specs.Laws.{put_into}
-use Rattle.driver_steps.specs.Moves.{WholeLog}
+use Rattle.log_steps.specs.Moves.{WholeLog}
 use Rattle.driver_steps.specs.Runs.{Reading, AreAnswers, end_of, left_by, read_by}
+use Rattle.log_traffic.specs.Whole.{AnyWhole, whole, rebuilt}
 use Rattle.policy_core.specs.RuleList.{Rules}
 use Rattle.term_log.specs.Frames.{Frame, pad}
 use Rattle.term_log.specs.Log.{rest_at}

@@ -1,12 +1,12 @@
 -- Over every list of events: counters and the end of the driver are granted as the policy in force says, and not otherwise.
 use Rattle.std.specs.Prelude.{◌≡◌, ℕ, ◌+◌, true, false, List, [], ◌∷◌, ◌++◌, map, Contains, ◌⊎◌}
 use Rattle.driver_core.specs.Change.{Change}
-use Rattle.driver_core.specs.declared.event.Event.{Event}
-use Rattle.driver_core.specs.declared.event.Event.TheVariants.{Command}
-use Rattle.driver_core.specs.declared.event.Inputs.{Inputs}
-use Rattle.driver_core.specs.declared.refusal.Refusal.{Refusal}
-use Rattle.driver_core.specs.declared.refusal.Refusal.TheVariants.{Denied, Full}
-use Rattle.driver_core.specs.declared.replies.Reply.TheVariants.{Error, OperationSuccess, CounterReady}
+use Rattle.driver_core.specs.declared.state.event.Event.{Event}
+use Rattle.driver_core.specs.declared.state.event.Event.TheVariants.{Command}
+use Rattle.driver_core.specs.declared.state.event.Inputs.{Inputs}
+use Rattle.driver_core.specs.declared.state.refusal.Refusal.{Refusal}
+use Rattle.driver_core.specs.declared.state.refusal.Refusal.TheVariants.{Denied, Full}
+use Rattle.driver_core.specs.declared.state.replies.Reply.TheVariants.{Error, OperationSuccess, CounterReady}
 use Rattle.driver_core.specs.Commands.{heard}
 use Rattle.driver_core.specs.Conduct.{coming_to, conduct}
 use Rattle.driver_core.specs.Counting.{has_room_for_counter}

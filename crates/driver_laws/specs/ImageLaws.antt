@@ -1,7 +1,7 @@
 -- Over every list of events: which subscription reads which log.
 use Rattle.std.specs.Prelude.{◌≡◌, ℕ, true, Contains, Some}
-use Rattle.driver_core.specs.declared.event.Event.{Event}
-use Rattle.driver_core.specs.declared.event.Inputs.{Inputs}
+use Rattle.driver_core.specs.declared.state.event.Event.{Event}
+use Rattle.driver_core.specs.declared.state.event.Inputs.{Inputs}
 use Rattle.driver_core.specs.Conduct.{conduct}
 use Rattle.driver_core.specs.Pairs.{pairs_of}
 use Rattle.driver_core.specs.Renewal.{gone_from, come_to}
@@ -13,13 +13,13 @@ use Rattle.driver_laws.specs.Events.{AfterAnyEvents}
 use Rattle.client_registry.specs.Clients.{principal_at}
 use Rattle.log_readers.specs.Unread.{is_kept}
 use Rattle.stream_registry.specs.declared.pairs.Pair.{Pair}
-use Rattle.stream_registry.specs.declared.row.Source.{Source}
+use Rattle.stream_registry.specs.declared.row.LogRow.{LogRow}
 use Rattle.stream_registry.specs.declared.row.Subscription.{Subscription}
 use Rattle.stream_registry.specs.Pairs.{fits, pair_of}
 
 -- a live log and a subscription that fit, where the policy in force allows the image to the subscription's client, by the
 -- first rule that matches or the default
-pub record IsReadBy (s : State) (log : Source) (subscription : Subscription) : Type 0 where
+pub record IsReadBy (s : State) (log : LogRow) (subscription : Subscription) : Type 0 where
   pub principal : ℕ
   pub is_live : Contains s.streams.sources log
   pub stands : Contains s.streams.subscriptions subscription
@@ -30,7 +30,7 @@ pub record IsReadBy (s : State) (log : Source) (subscription : Subscription) : T
 
 -- a pair is of such a log and such a subscription
 pub record IsOfReader (s : State) (pair : Pair) : Type 0 where
-  pub log : Source
+  pub log : LogRow
   pub subscription : Subscription
   pub pair_is : pair ≡ pair_of log subscription
   pub reads : IsReadBy s log subscription
@@ -39,7 +39,7 @@ pub record IsOfReader (s : State) (pair : Pair) : Type 0 where
 pub record PairsExactly (s : State) : Type 0 where
   pub only : (pair : Pair) → Contains (pairs_of s) pair → IsOfReader s pair
   pub exactly :
-      (log : Source) (subscription : Subscription) → IsReadBy s log subscription →
+      (log : LogRow) (subscription : Subscription) → IsReadBy s log subscription →
       Contains (pairs_of s) (pair_of log subscription)
   pub gone :
       (event : Event) (inputs : Inputs) →
@@ -55,7 +55,7 @@ ImagesAreGrantedExactly = AfterAnyEvents (λ s. PairsExactly s)
 
 -- no live image is without a pair
 abbrev pub AreRead : State → Type 0
-AreRead s = (log : Source) → Contains s.streams.sources log → is_kept (pairs_of s) log ≡ true
+AreRead s = (log : LogRow) → Contains s.streams.sources log → is_kept (pairs_of s) log ≡ true
 
 abbrev pub ImagesAreRead : Type 0
 ImagesAreRead = AfterAnyEvents AreRead

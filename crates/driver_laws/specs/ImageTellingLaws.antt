@@ -1,18 +1,18 @@
 -- Over every list of events: clients are notified of exactly the images that come and go.
 use Rattle.std.specs.Prelude.{◌≡◌, ℕ, Bool, true, false, List, [], ◌∷◌, filter, Contains, is_some, ◌⊎◌}
 use Rattle.driver_core.specs.Change.{Change}
-use Rattle.driver_core.specs.declared.event.End.{End}
-use Rattle.driver_core.specs.declared.event.Event.{Event}
-use Rattle.driver_core.specs.declared.event.Inputs.{Inputs}
-use Rattle.driver_core.specs.declared.replies.Message.{Message}
-use Rattle.driver_core.specs.declared.replies.Reply.{Reply}
-use Rattle.driver_core.specs.declared.replies.Reply.TheVariants.{AvailableImage, UnavailableImage}
+use Rattle.driver_core.specs.declared.state.event.End.{End}
+use Rattle.driver_core.specs.declared.state.event.Event.{Event}
+use Rattle.driver_core.specs.declared.state.event.Inputs.{Inputs}
+use Rattle.driver_core.specs.declared.state.replies.Message.{Message}
+use Rattle.driver_core.specs.declared.state.replies.Reply.{Reply}
+use Rattle.driver_core.specs.declared.state.replies.Reply.TheVariants.{AvailableImage, UnavailableImage}
 use Rattle.driver_core.specs.Conduct.{conduct}
 use Rattle.driver_core.specs.Renewal.{subscription_at}
 use Rattle.driver_core.specs.State.{State}
 use Rattle.driver_laws.specs.Events.{AfterAnyEvents}
 use Rattle.stream_registry.specs.declared.pairs.Pair.{Pair}
-use Rattle.stream_registry.specs.declared.row.Source.{Source}
+use Rattle.stream_registry.specs.declared.row.LogRow.{LogRow}
 use Rattle.stream_registry.specs.declared.row.Subscription.{Subscription}
 use Rattle.stream_registry.specs.Origins.{begins_at}
 use Rattle.driver_core.specs.Identity.{identity_of}
@@ -53,7 +53,7 @@ Reaches ends source begin position = IsTheEnd ends source position ⊎ HasNoEnd 
 -- the client of the pair's subscription is sent the log's session and stream, how far it reaches, and from where its
 -- publisher sends, where that is a remote one
 pub record IsToldAvailable (after : State) (ends : List End) (pair : Pair) (message : Message) : Type 0 where
-  pub log : Source
+  pub log : LogRow
   pub subscription : Subscription
   pub is_live : Contains after.streams.sources log
   pub stands : Contains after.streams.subscriptions subscription

@@ -8,18 +8,17 @@ use Rattle.driver_laws.specs.OlderLaws.{AtEachRegistry}
 use Rattle.driver_laws.specs.StepActs.{join_verdict}
 use Rattle.driver_steps.specs.declared.step.Step.{Step}
 use Rattle.driver_steps.specs.declared.step.Step.TheVariants.{Packet, Send}
-use Rattle.driver_steps.specs.Ends.{RunEnd, log_at}
-use Rattle.driver_steps.specs.Moves.{WholeLog}
-use Rattle.driver_steps.specs.Seen.{moved_seen}
+use Rattle.driver_steps.specs.Ends.{log_at, moved_by, RunEnd}
+use Rattle.log_steps.specs.Moves.{WholeLog}
 use Rattle.frame_codec.specs.declared.status_message.StatusMessage.{StatusMessage}
 use Rattle.frame_codec.specs.Datagram.{status, packet_of}
 use Rattle.learnt_addresses.specs.declared.learnt_address.LearntAddress.{LearntAddress}
 use Rattle.learnt_addresses.specs.LearntAddresses.{has, stands}
-use Rattle.stream_registry.specs.declared.row.Source.{Source}
+use Rattle.stream_registry.specs.declared.row.LogRow.{LogRow}
 use Rattle.stream_registry.specs.Places.{is_dynamic}
 
 -- the step is a status message from that address for the publication with that log, which learns its destinations
-pub record IsStatusFrom (s : State) (step : Step) (source now : ℕ) (from : Address) (publication : Source) : Type 0 where
+pub record IsStatusFrom (s : State) (step : Step) (source now : ℕ) (from : Address) (publication : LogRow) : Type 0 where
   pub local : Address
   pub bytes : List ℕ
   pub fields : StatusMessage
@@ -31,14 +30,14 @@ pub record IsStatusFrom (s : State) (step : Step) (source now : ℕ) (from : Add
 
 -- a status message came from that address, at the moment that is kept with it, and that registry's policy allows it to join
 pub record IsLetIn (s : State) (step : Step) (source : ℕ) (row : LearntAddress) : Type 0 where
-  pub publication : Source
+  pub publication : LogRow
   pub message : IsStatusFrom s step source row.heard row.address publication
   pub allowed : (join_verdict s row.address publication).allow ≡ true
 
 -- one came from there that it denies
 pub record IsTurnedAway (s : State) (step : Step) (source : ℕ) (address : Address) : Type 0 where
   pub now : ℕ
-  pub publication : Source
+  pub publication : LogRow
   pub message : IsStatusFrom s step source now address publication
   pub denied : (join_verdict s address publication).allow ≡ false
 
@@ -60,14 +59,14 @@ has_learnt (Some log) address = has log.recovery.learnt address
 pub record AddressesComeAndGoBy (s : State) (e : RunEnd) : Type 0 where
   pub comes :
       (step : Step) (source : ℕ) (new : WholeLog) (row : LearntAddress) →
-      log_at (moved_seen s e step).after.logs source ≡ Some new → Contains new.recovery.learnt row →
+      log_at (moved_by s e step).after.logs source ≡ Some new → Contains new.recovery.learnt row →
       has_learnt (log_at e.logs source) row.address ≡ false → IsLetIn s step source row
   pub goes :
       (step : Step) (source : ℕ) (log : WholeLog) (row : LearntAddress) → log_at e.logs source ≡ Some log →
       Contains log.recovery.learnt row →
-      has_learnt (log_at (moved_seen s e step).after.logs source) row.address ≡ false →
+      has_learnt (log_at (moved_by s e step).after.logs source) row.address ≡ false →
       IsTurnedAway s step source row.address
-      ⊎ (IsPast s step source row ⊎ (log_at (moved_seen s e step).after.logs source ≡ None))
+      ⊎ (IsPast s step source row ⊎ (log_at (moved_by s e step).after.logs source ≡ None))
 
 abbrev pub AddressesComeAndGoOnlySo : Type 0
 AddressesComeAndGoOnlySo = AtEachRegistry AddressesComeAndGoBy

@@ -1,9 +1,9 @@
 -- Over every list of events: which counters a client is shown.
 use Rattle.std.specs.Prelude.{◌≡◌, ℕ, Bool, true, false, not, List, [], map, filter, Some, None}
-use Rattle.driver_core.specs.declared.listing.Listed.{Listed}
-use Rattle.driver_core.specs.declared.listing.Listed.TheVariants as listed_as
-use Rattle.driver_core.specs.declared.listing.Shown.{Shown}
-use Rattle.driver_core.specs.declared.listing.Shown.TheVariants as shown_as
+use Rattle.driver_core.specs.declared.asked.listing.Listed.{Listed}
+use Rattle.driver_core.specs.declared.asked.listing.Listed.TheVariants as listed_as
+use Rattle.driver_core.specs.declared.asked.listing.Shown.{Shown}
+use Rattle.driver_core.specs.declared.asked.listing.Shown.TheVariants as shown_as
 use Rattle.driver_core.specs.LeftOut.{left_out as left_out_of, with_denials}
 use Rattle.driver_core.specs.Listing.{list, row_of, shows_source, source_row, uses_of, value, with_rows}
 use Rattle.driver_core.specs.Renewal.{source_at}
@@ -20,7 +20,7 @@ use Rattle.policy_core.specs.declared.act.Act.TheVariants.{List as SeeCounter}
 use Rattle.policy_core.specs.declared.decision.Decision.{Decision}
 use Rattle.policy_core.specs.Question.{Question}
 use Rattle.policy_core.specs.Verdict.{verdict_text}
-use Rattle.stream_registry.specs.declared.row.Source.{Source}
+use Rattle.stream_registry.specs.declared.row.LogRow.{LogRow}
 
 -- what the policy is asked before the client is shown the counter
 abbrev pub look_question : Client → Counter → Question
@@ -31,7 +31,7 @@ abbrev pub is_shown_to : State → Client → Counter → Bool
 is_shown_to s client counter = (verdict_on s (look_question client counter)).allow
 
 -- what it is asked before the client is shown the log
-abbrev pub source_look : Client → Source → Question
+abbrev pub source_look : Client → LogRow → Question
 source_look client source = asked (look_at_log client.principal source)
 
 -- what the policy in force decides on showing the client the counter
@@ -45,7 +45,7 @@ look_decision s client counter = record {
 }
 
 -- and on showing it the log
-abbrev pub look_at_source : State → Client → Source → Decision
+abbrev pub look_at_source : State → Client → LogRow → Decision
 look_at_source s client source = record {
   principal = client.principal;
   act = SeeCounter;
@@ -57,7 +57,7 @@ look_at_source s client source = record {
 abbrev pub is_hidden_from : State → Client → Counter → Bool
 is_hidden_from s client counter = not (is_shown_to s client counter)
 
-abbrev pub is_source_hidden : State → Client → Source → Bool
+abbrev pub is_source_hidden : State → Client → LogRow → Bool
 is_source_hidden s client source = not (shows_source s client.principal source)
 
 -- the rows are those of the counters that the policy in force shows, and of the live logs, each by the first rule that matches
@@ -70,7 +70,7 @@ pub record ListsExactly (s : State) (client : Client) (answer : Listed) : Type 0
   pub by :
       (counter : Counter) → IsByPolicy s (look_question client counter) (verdict_on s (look_question client counter))
   pub sources_by :
-      (source : Source) → IsByPolicy s (source_look client source) (verdict_on s (source_look client source))
+      (source : LogRow) → IsByPolicy s (source_look client source) (verdict_on s (source_look client source))
 
 -- the value where the policy in force shows it, else the denial, which names the rule or the default
 pub record ShowsExactly (s : State) (client : Client) (counter : Counter) (answer : Shown) : Type 0 where
@@ -83,7 +83,7 @@ pub record ShowsExactly (s : State) (client : Client) (counter : Counter) (answe
       ≡ denial_text (verdict_on s (look_question client counter)).rule s.epoch
 
 -- how many are registered with the publication, or read the image, where the policy in force shows it, else the denial
-pub record ShowsSourceExactly (s : State) (client : Client) (source : Source) (answer : Shown) : Type 0 where
+pub record ShowsSourceExactly (s : State) (client : Client) (source : LogRow) (answer : Shown) : Type 0 where
   pub by : IsByPolicy s (source_look client source) (verdict_on s (source_look client source))
   pub shown :
       (verdict_on s (source_look client source)).allow ≡ true → answer ≡ shown_as.Value (uses_of s source)
@@ -110,7 +110,7 @@ pub record LooksExactly (s : State) (handle : ℕ) : Type 0 where
       (client : Client) (number : ℕ) (counter : Counter) → client_at s.clients.rows handle ≡ Some client →
       counter_at s.counters number ≡ Some counter → ShowsExactly s client counter (value s handle number)
   pub sourced :
-      (client : Client) (number : ℕ) (source : Source) → client_at s.clients.rows handle ≡ Some client →
+      (client : Client) (number : ℕ) (source : LogRow) → client_at s.clients.rows handle ≡ Some client →
       counter_at s.counters number ≡ None → source_at s.streams.sources number ≡ Some source →
       ShowsSourceExactly s client source (value s handle number)
   pub unknown :

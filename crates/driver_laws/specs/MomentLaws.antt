@@ -1,10 +1,10 @@
 -- Over every list of events: what moments do.
 use Rattle.std.specs.Prelude.{◌≡◌, ℕ, ◌≤◌, max, true, false, List, Contains, Some, length}
 use Rattle.driver_core.specs.Change.{Change}
-use Rattle.driver_core.specs.declared.event.Event.{Event}
-use Rattle.driver_core.specs.declared.event.Event.TheVariants.{Tick}
-use Rattle.driver_core.specs.declared.event.Inputs.{Inputs}
-use Rattle.driver_core.specs.declared.outcome.Response.TheVariants.{Nothing}
+use Rattle.driver_core.specs.declared.state.event.Event.{Event}
+use Rattle.driver_core.specs.declared.state.event.Event.TheVariants.{Tick}
+use Rattle.driver_core.specs.declared.state.event.Inputs.{Inputs}
+use Rattle.driver_core.specs.declared.state.outcome.Response.TheVariants.{Nothing}
 use Rattle.driver_core.specs.Conduct.{coming_to, moment_told, outcome_of, state_after}
 use Rattle.driver_core.specs.Looking.{IsAtItsMoment}
 use Rattle.driver_core.specs.Pairs.{pairs_of, prospects_of}
@@ -18,7 +18,7 @@ use Rattle.client_registry.specs.Clients.{principal_at}
 use Rattle.policy_core.specs.MomentLaws.{IsEverAllowed, is_before}
 use Rattle.policy_core.specs.Moments.{steady_until}
 use Rattle.stream_registry.specs.declared.pairs.Pair.{Pair}
-use Rattle.stream_registry.specs.declared.row.Source.{Source}
+use Rattle.stream_registry.specs.declared.row.LogRow.{LogRow}
 use Rattle.stream_registry.specs.declared.row.Subscription.{Subscription}
 use Rattle.stream_registry.specs.Pairs.{fits, pair_of}
 
@@ -48,7 +48,7 @@ RefusesImage s subscription =
 
 -- the pair is of a log and a subscription that reads it by the one registry, and which the policy of the other refuses the image
 pub record IsTaken (from to : State) (pair : Pair) : Type 0 where
-  pub log : Source
+  pub log : LogRow
   pub subscription : Subscription
   pub pair_is : pair ≡ pair_of log subscription
   pub reads : IsReadBy from log subscription
@@ -58,7 +58,7 @@ pub record IsTaken (from to : State) (pair : Pair) : Type 0 where
 pub record AreTaken (from to : State) (pairs : List Pair) : Type 0 where
   pub only : (pair : Pair) → Contains pairs pair → IsTaken from to pair
   pub exactly :
-      (log : Source) (subscription : Subscription) → IsReadBy from log subscription → RefusesImage to subscription →
+      (log : LogRow) (subscription : Subscription) → IsReadBy from log subscription → RefusesImage to subscription →
       Contains pairs (pair_of log subscription)
 
 -- Whatever the event is, beside what its own rule does to lists: the pairs go that the policy of before allowed and that of the
@@ -77,7 +77,7 @@ MomentsTakeAndGiveExactly =
 
 -- a live log and a subscription that fit, where the policy in force allows the image to the subscription's client at the registry's
 -- moment, or at a later one
-pub record IsEverReadBy (s : State) (log : Source) (subscription : Subscription) : Type 0 where
+pub record IsEverReadBy (s : State) (log : LogRow) (subscription : Subscription) : Type 0 where
   pub principal : ℕ
   pub is_live : Contains s.streams.sources log
   pub stands : Contains s.streams.subscriptions subscription
@@ -87,7 +87,7 @@ pub record IsEverReadBy (s : State) (log : Source) (subscription : Subscription)
 
 -- a pair is of such a log and such a subscription
 pub record IsOfProspect (s : State) (pair : Pair) : Type 0 where
-  pub log : Source
+  pub log : LogRow
   pub subscription : Subscription
   pub pair_is : pair ≡ pair_of log subscription
   pub reads : IsEverReadBy s log subscription
@@ -96,7 +96,7 @@ pub record IsOfProspect (s : State) (pair : Pair) : Type 0 where
 pub record CountsWhatIsEverAllowed (s : State) : Type 0 where
   pub only : (pair : Pair) → Contains (prospects_of s) pair → IsOfProspect s pair
   pub exactly :
-      (log : Source) (subscription : Subscription) → IsEverReadBy s log subscription →
+      (log : LogRow) (subscription : Subscription) → IsEverReadBy s log subscription →
       Contains (prospects_of s) (pair_of log subscription)
 
 abbrev pub LimitsCountWhatIsEverAllowed : Type 0

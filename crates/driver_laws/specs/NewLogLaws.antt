@@ -1,15 +1,14 @@
 -- A log that was not there before a step and is there after it has no frame, and zeros alone. Own rules.
 use Rattle.std.specs.Prelude.{◌≡◌, ℕ, ◌*◌, List, [], replicate, slice_index, Some, None}
-use Rattle.any_log.specs.Whole.{AnyWhole, whole, rebuilt}
 use Rattle.driver_core.specs.State.{State}
 use Rattle.driver_laws.specs.OlderLaws.{AtEachRegistry}
 use Rattle.driver_laws.specs.WorldLaws.{AtEachRegistryOfAWorld}
 use Rattle.driver_steps.specs.declared.step.Step.{Step}
-use Rattle.driver_steps.specs.Ends.{RunEnd, log_at}
-use Rattle.driver_steps.specs.Moves.{WholeLog}
-use Rattle.driver_steps.specs.Seen.{moved_seen}
+use Rattle.driver_steps.specs.Ends.{log_at, moved_by, RunEnd}
+use Rattle.log_steps.specs.Moves.{WholeLog}
 use Rattle.image_log.specs.Rebuilt.{Rebuilt}
 use Rattle.image_log.specs.Stored.{IsBlank}
+use Rattle.log_traffic.specs.Whole.{AnyWhole, whole, rebuilt}
 use Rattle.term_log.specs.Log.{Log}
 use Rattle.term_log.specs.Whole.{Stands, Whole}
 
@@ -34,7 +33,7 @@ IsEmpty (rebuilt r) = HasNoEntry r
 pub record OpensEmptyLogs (s : State) (e : RunEnd) : Type 0 where
   pub opens :
       (step : Step) (source : ℕ) (log : WholeLog) → log_at e.logs source ≡ None →
-      log_at (moved_seen s e step).after.logs source ≡ Some log → IsEmpty log.whole
+      log_at (moved_by s e step).after.logs source ≡ Some log → IsEmpty log.whole
 
 -- at the end of every run, of a driver and of a world
 pub record NewLogsAreEmpty : Type 0 where

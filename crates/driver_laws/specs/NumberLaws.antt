@@ -1,7 +1,7 @@
 -- Over every list of events: the numbers of rows, none of which is drawn again.
 use Rattle.std.specs.Prelude.{◌≡◌, ℕ, ◌<◌, ◌≤◌, List, [], ◌∷◌, Contains, ◌⊎◌}
-use Rattle.driver_core.specs.declared.event.Event.{Event}
-use Rattle.driver_core.specs.declared.event.Inputs.{Inputs}
+use Rattle.driver_core.specs.declared.state.event.Event.{Event}
+use Rattle.driver_core.specs.declared.state.event.Inputs.{Inputs}
 use Rattle.driver_core.specs.Conduct.{state_after, state_of}
 use Rattle.driver_core.specs.State.{State}
 use Rattle.driver_laws.specs.Events.{AfterAnyEvents}
@@ -10,7 +10,7 @@ use Rattle.driver_laws.specs.PublishingLaws.{WasLive}
 use Rattle.driver_laws.specs.ReloadLaws.{in_force_at}
 use Rattle.client_registry.specs.declared.client.Client.{Client}
 use Rattle.counters.specs.declared.counter.Counter.{Counter}
-use Rattle.stream_registry.specs.declared.row.Source.{Source}
+use Rattle.stream_registry.specs.declared.row.LogRow.{LogRow}
 use Rattle.stream_registry.specs.declared.row.Registration.{Registration}
 use Rattle.stream_registry.specs.declared.row.Subscription.{Subscription}
 
@@ -24,7 +24,7 @@ pub record IsDrawn (last number : ℕ) : Type 0 where
 pub record AreDrawn (s : State) : Type 0 where
   pub clients : (client : Client) → Contains s.clients.rows client → IsDrawn s.clients.last client.number
   pub sources :
-      (log : Source) → Contains s.streams.sources log → IsDrawn s.last_number log.number
+      (log : LogRow) → Contains s.streams.sources log → IsDrawn s.last_number log.number
   pub registrations :
       (registration : Registration) → Contains s.streams.registrations registration →
       IsDrawn s.last_number registration.number
@@ -46,7 +46,7 @@ Rises number_of low last (row ∷ rows) = (low < number_of row) × Rises number_
 -- in each list the numbers rise
 pub record AreRising (s : State) : Type 0 where
   pub clients : Rises (λ (client : Client). client.number) 0 s.clients.last s.clients.rows
-  pub sources : Rises (λ (log : Source). log.number) 0 s.last_number s.streams.sources
+  pub sources : Rises (λ (log : LogRow). log.number) 0 s.last_number s.streams.sources
   pub registrations : Rises (λ (registration : Registration). registration.number) 0 s.last_number s.streams.registrations
   pub subscriptions : Rises (λ (subscription : Subscription). subscription.number) 0 s.last_number s.streams.subscriptions
   pub counters : Rises (λ (counter : Counter). counter.number) 0 s.last_number s.counters
@@ -74,13 +74,13 @@ pub record AreApart (s : State) : Type 0 where
       ShareNoNumber (λ (subscription : Subscription). subscription.number) (λ (counter : Counter). counter.number)
       s.streams.subscriptions s.counters
   pub logs_and_subscriptions :
-      ShareNoNumber (λ (log : Source). log.number)
+      ShareNoNumber (λ (log : LogRow). log.number)
       (λ (subscription : Subscription). subscription.number) s.streams.sources s.streams.subscriptions
   pub logs_and_counters :
-      ShareNoNumber (λ (log : Source). log.number) (λ (counter : Counter). counter.number)
+      ShareNoNumber (λ (log : LogRow). log.number) (λ (counter : Counter). counter.number)
       s.streams.sources s.counters
   pub logs_and_registrations :
-      (log : Source) (registration : Registration) → Contains s.streams.sources log →
+      (log : LogRow) (registration : Registration) → Contains s.streams.sources log →
       Contains s.streams.registrations registration → log.number ≡ registration.number →
       registration.source ≡ log.number
 
@@ -112,7 +112,7 @@ pub record ComesAbove (s after : State) : Type 0 where
   pub clients :
       (client : Client) → Contains after.clients.rows client → WasAttached s client ⊎ (s.clients.last < client.number)
   pub sources :
-      (log : Source) → Contains after.streams.sources log →
+      (log : LogRow) → Contains after.streams.sources log →
       WasLive s.streams log ⊎ (s.last_number < log.number)
   pub registrations :
       (registration : Registration) → Contains after.streams.registrations registration →

@@ -1,24 +1,24 @@
 -- Offers, polls, turns of the sender, status messages, NAKs and looks at counters by any registry that a run went through, on the
 -- logs that are open at its end. Own rules.
-use Rattle.any_log.specs.Asking.{reply_by}
+use Rattle.log_traffic.specs.Asking.{reply_by}
 use Rattle.channel_uri.specs.declared.address.Address.{Address}
 use Rattle.destinations.specs.declared.destination.Destination.{Destination}
 use Rattle.destinations.specs.Destinations.{of}
-use Rattle.driver_core.specs.declared.send_request.Outlet.{Outlet}
+use Rattle.driver_core.specs.declared.asked.send_request.Outlet.{Outlet}
 use Rattle.driver_core.specs.SendRequests.{is_sent, learnt_outlet, outlet_of, sending_of}
 use Rattle.learnt_addresses.specs.declared.learnt_address.LearntAddress.{LearntAddress}
 use Rattle.stream_registry.specs.Places.{is_dynamic}
 use Rattle.driver_laws.specs.ListingLaws.{LooksExactly}
 use Rattle.driver_laws.specs.StepActs.{LearntIsDecidedBy, OutletIsDecidedBy, join_question, join_verdict, offer_question, offer_verdict, poll_question, poll_verdict, resend_question, resend_verdict}
-use Rattle.driver_steps.specs.Sending.{expired, pace_of, standing_of}
-use Rattle.publication_sender.specs.Cutting.{cut_of, datagram_of}
-use Rattle.stream_registry.specs.declared.row.Source.{Source}
+use Rattle.log_steps.specs.Sending.{expired, pace_of, standing_of}
+use Rattle.log_traffic.specs.Cutting.{cut_of, datagram_of}
+use Rattle.stream_registry.specs.declared.row.LogRow.{LogRow}
 use Rattle.stream_registry.specs.Origins.{lingering_since}
 use Rattle.std.specs.Option.{is_some}
 use Rattle.std.specs.Prelude.{Ok, map, ◌≡◌, ℕ, not, nat_lt, true, false, List, length, take, Some, None, if◌then◌else◌}
-use Rattle.any_log.specs.Whole.{position_in, whole}
-use Rattle.driver_core.specs.declared.peer.Peer.{Peer}
-use Rattle.driver_core.specs.declared.settings.Settings.{Settings}
+use Rattle.log_traffic.specs.Whole.{position_in, whole}
+use Rattle.driver_core.specs.declared.state.peer.Peer.{Peer}
+use Rattle.driver_core.specs.declared.state.settings.Settings.{Settings}
 use Rattle.driver_core.specs.Conduct.{state_of}
 use Rattle.driver_core.specs.Listing.{list, value}
 use Rattle.driver_core.specs.LogRequests.{has_pair, registration_at}
@@ -26,29 +26,28 @@ use Rattle.driver_core.specs.Renewal.{source_at, subscription_at}
 use Rattle.driver_core.specs.Soundness.{AreSettings}
 use Rattle.driver_core.specs.State.{State, opened}
 use Rattle.driver_core.specs.Verdicts.{IsByPolicy}
-use Rattle.driver_steps.specs.declared.answer.Answer.{Answer}
-use Rattle.driver_steps.specs.declared.answer.Answer.TheVariants.{Offered as OfferedAs, Denied, Dropped, Gone as IsGone, Idle, Resent, Sent}
-use Rattle.driver_steps.specs.declared.answer.Offered.TheVariants.{Closed, TooLong, NotConnected}
+use Rattle.log_steps.specs.declared.answer.Answer.{Answer}
+use Rattle.log_steps.specs.declared.answer.Answer.TheVariants.{Offered as OfferedAs, Denied, Dropped, Gone as IsGone, Idle, Resent, Sent}
+use Rattle.log_steps.specs.declared.answer.Offered.TheVariants.{Closed, TooLong, NotConnected}
 use Rattle.driver_steps.specs.declared.step.Step.TheVariants.{List as Lists, Offer, Packet, Poll, Send, Value}
-use Rattle.driver_steps.specs.Answers.{answer_listed, answer_shown}
-use Rattle.driver_steps.specs.Ends.{RunEnd, Moved, log_at, opening_end, with_log}
+use Rattle.log_steps.specs.Answers.{answer_listed, answer_shown}
+use Rattle.driver_steps.specs.Ends.{log_at, Moved, moved_by, opening_end, RunEnd, with_log}
 use Rattle.driver_steps.specs.Laws.{AsksToOffer, AsksToPoll, OfferRequest, PollRequest, given_by_log, stays, taken_by_log, taken_from}
 use Rattle.driver_steps.specs.JoinLaws.{moved_by_log}
-use Rattle.driver_steps.specs.Moves.{WholeLog, answered}
+use Rattle.log_steps.specs.Moves.{WholeLog, answered}
 use Rattle.driver_steps.specs.Runs.{Reading, AreAnswers, end_of}
-use Rattle.driver_steps.specs.Seen.{moved_seen}
-use Rattle.driver_core.specs.declared.image_request.Astray.TheVariants.{NoStream}
+use Rattle.driver_core.specs.declared.asked.image_request.Astray.TheVariants.{NoStream}
 use Rattle.driver_core.specs.PublicationRequests.{publication_at}
-use Rattle.driver_steps.specs.declared.cause.Cause.TheVariants.{Astray, Denied as DeniedFor, Full as IsFull}
-use Rattle.driver_steps.specs.Hearing.{answer_asked, heard_move, with_learnt}
-use Rattle.driver_steps.specs.Receiving.{unheard}
+use Rattle.log_steps.specs.declared.cause.Cause.TheVariants.{Astray, Denied as DeniedFor, Full as IsFull}
+use Rattle.log_steps.specs.Hearing.{answer_asked, heard_move, with_learnt}
+use Rattle.log_steps.specs.Receiving.{unheard}
 use Rattle.frame_codec.specs.declared.nak.Nak.{Nak}
 use Rattle.frame_codec.specs.declared.status_message.StatusMessage.{StatusMessage}
 use Rattle.frame_codec.specs.Datagram.{nak, status, packet_of}
 use Rattle.learnt_addresses.specs.declared.learning.Learning.TheVariants.{Full}
 use Rattle.learnt_addresses.specs.LearntAddresses.{forgotten, learning, learnt}
 use Rattle.policy_core.specs.RuleList.{Rules}
-use Rattle.publication_sender.specs.Resending.{asking_in, gate_after}
+use Rattle.log_traffic.specs.Resending.{asking_in, gate_after}
 use Rattle.retransmit_gate.specs.ResendLaws.{answer_to}
 use Rattle.stream_registry.specs.declared.row.Subscription.{Subscription}
 use Rattle.term_log.specs.Log.{greatest_message}
@@ -87,14 +86,14 @@ pub record OffersAreDecidedBy (s : State) (e : RunEnd) : Type 0 where
       AsksToOffer s handle number request → log_at e.logs request.publication.number ≡ Some log →
       (frames : Whole)
       × (log.whole ≡ whole frames)
-      × OfferIsDecidedBy s e now message request log frames (moved_seen s e (Offer now handle number message))
+      × OfferIsDecidedBy s e now message request log frames (moved_by s e (Offer now handle number message))
   pub closed :
       (now handle number : ℕ) (message : List ℕ) (request : OfferRequest) →
       AsksToOffer s handle number request → log_at e.logs request.publication.number ≡ None →
-      moved_seen s e (Offer now handle number message) ≡ stays e (OfferedAs Closed)
+      moved_by s e (Offer now handle number message) ≡ stays e (OfferedAs Closed)
   pub unregistered :
       (now handle number : ℕ) (message : List ℕ) → registration_at s.streams.registrations handle number ≡ None →
-      moved_seen s e (Offer now handle number message) ≡ stays e (OfferedAs Closed)
+      moved_by s e (Offer now handle number message) ≡ stays e (OfferedAs Closed)
 
 abbrev pub OffersByAnyRegistryAreGrantedExactly : Type 0
 OffersByAnyRegistryAreGrantedExactly = AtEachRegistry OffersAreDecidedBy
@@ -111,21 +110,21 @@ pub record PollsAreDecidedBy (s : State) (e : RunEnd) : Type 0 where
   pub there :
       (now handle number source limit at : ℕ) (request : PollRequest) (log : WholeLog) →
       AsksToPoll s handle number source request → log_at e.logs source ≡ Some log → position_in log.whole number ≡ Some at →
-      PollIsDecidedBy s e number limit request log (moved_seen s e (Poll now handle number source limit))
+      PollIsDecidedBy s e number limit request log (moved_by s e (Poll now handle number source limit))
   pub unread_now :
       (now handle number source limit : ℕ) (log : WholeLog) →
       log_at e.logs source ≡ Some log → position_in log.whole number ≡ None →
-      moved_seen s e (Poll now handle number source limit) ≡ stays e IsGone
+      moved_by s e (Poll now handle number source limit) ≡ stays e IsGone
   pub closed :
       (now handle number source limit : ℕ) → log_at e.logs source ≡ None →
-      moved_seen s e (Poll now handle number source limit) ≡ stays e IsGone
+      moved_by s e (Poll now handle number source limit) ≡ stays e IsGone
   pub unread :
       (now handle number source limit : ℕ) → has_pair s source number ≡ false →
-      moved_seen s e (Poll now handle number source limit) ≡ stays e IsGone
+      moved_by s e (Poll now handle number source limit) ≡ stays e IsGone
   pub foreign :
       (now handle number source limit : ℕ) (subscription : Subscription) →
       subscription_at s.streams.subscriptions number ≡ Some subscription → ¬ (subscription.client ≡ handle) →
-      moved_seen s e (Poll now handle number source limit) ≡ stays e IsGone
+      moved_by s e (Poll now handle number source limit) ≡ stays e IsGone
 
 abbrev pub PollsByAnyRegistryAreGrantedExactly : Type 0
 PollsByAnyRegistryAreGrantedExactly = AtEachRegistry PollsAreDecidedBy
@@ -151,7 +150,7 @@ idle_by_log_seen s e now log = record {
 -- The datagram that is due, for each destination that the publication has by that registry, in the order in which they were named,
 -- or for each address that the log has learnt and that is not past that registry's timeout, in the order in which they were
 -- learnt; and for each of these what that registry's policy says.
-pub record SendIsDecidedBy (s : State) (e : RunEnd) (now : ℕ) (publication : Source) (log : WholeLog) (frames : Whole) (what : Moved) : Type 0 where
+pub record SendIsDecidedBy (s : State) (e : RunEnd) (now : ℕ) (publication : LogRow) (log : WholeLog) (frames : Whole) (what : Moved) : Type 0 where
   pub outlets : List Outlet
   pub named :
       is_dynamic publication.channel ≡ false →
@@ -170,13 +169,13 @@ pub record SendIsDecidedBy (s : State) (e : RunEnd) (now : ℕ) (publication : S
 
 pub record SendsAreDecidedBy (s : State) (e : RunEnd) : Type 0 where
   pub there :
-      (now source : ℕ) (publication : Source) (log : WholeLog) →
+      (now source : ℕ) (publication : LogRow) (log : WholeLog) →
       source_at s.streams.sources source ≡ Some publication → is_sent publication ≡ true → log_at e.logs source ≡ Some log →
       (frames : Whole)
       × (log.whole ≡ whole frames)
-      × SendIsDecidedBy s e now publication log frames (moved_seen s e (Send now source))
-  pub closed : (now source : ℕ) → log_at e.logs source ≡ None → moved_seen s e (Send now source) ≡ stays e IsGone
-  pub gone : (now source : ℕ) → sending_of s source ≡ None → moved_seen s e (Send now source) ≡ stays e IsGone
+      × SendIsDecidedBy s e now publication log frames (moved_by s e (Send now source))
+  pub closed : (now source : ℕ) → log_at e.logs source ≡ None → moved_by s e (Send now source) ≡ stays e IsGone
+  pub gone : (now source : ℕ) → sending_of s source ≡ None → moved_by s e (Send now source) ≡ stays e IsGone
 
 abbrev pub SendsByAnyRegistryAreGrantedExactly : Type 0
 SendsByAnyRegistryAreGrantedExactly = AtEachRegistry SendsAreDecidedBy
@@ -185,7 +184,7 @@ SendsByAnyRegistryAreGrantedExactly = AtEachRegistry SendsAreDecidedBy
 
 -- The verdict of that registry's policy on the address from which it came decides: denied, the address is forgotten; allowed, where
 -- there is no room for it nothing is changed, and else it is learnt, or heard of again, and then the log hears the message.
-pub record JoinIsDecidedBy (s : State) (e : RunEnd) (now : ℕ) (from : Address) (fields : StatusMessage) (publication : Source)
+pub record JoinIsDecidedBy (s : State) (e : RunEnd) (now : ℕ) (from : Address) (fields : StatusMessage) (publication : LogRow)
     (log : WholeLog) (what : Moved) : Type 0 where
   pub by : IsByPolicy s (join_question s from publication) (join_verdict s from publication)
   pub denied :
@@ -204,23 +203,23 @@ pub record JoinIsDecidedBy (s : State) (e : RunEnd) (now : ℕ) (from : Address)
 -- hears the message, and no policy is asked
 pub record JoinsAreDecidedBy (s : State) (e : RunEnd) : Type 0 where
   pub there :
-      (now : ℕ) (local from : Address) (bytes : List ℕ) (fields : StatusMessage) (publication : Source) (log : WholeLog) →
+      (now : ℕ) (local from : Address) (bytes : List ℕ) (fields : StatusMessage) (publication : LogRow) (log : WholeLog) →
       packet_of bytes ≡ Ok (status fields) → publication_at s fields.session_id fields.stream_id ≡ Some publication →
       is_dynamic publication.channel ≡ true → log_at e.logs publication.number ≡ Some log →
-      JoinIsDecidedBy s e now from fields publication log (moved_seen s e (Packet now local from bytes))
+      JoinIsDecidedBy s e now from fields publication log (moved_by s e (Packet now local from bytes))
   pub named :
-      (now : ℕ) (local from : Address) (bytes : List ℕ) (fields : StatusMessage) (publication : Source) (log : WholeLog) →
+      (now : ℕ) (local from : Address) (bytes : List ℕ) (fields : StatusMessage) (publication : LogRow) (log : WholeLog) →
       packet_of bytes ≡ Ok (status fields) → publication_at s fields.session_id fields.stream_id ≡ Some publication →
       is_dynamic publication.channel ≡ false → log_at e.logs publication.number ≡ Some log →
-      moved_seen s e (Packet now local from bytes) ≡ moved_by_log e log (heard_move now fields log)
+      moved_by s e (Packet now local from bytes) ≡ moved_by_log e log (heard_move now fields log)
   pub closed :
-      (now : ℕ) (local from : Address) (bytes : List ℕ) (fields : StatusMessage) (publication : Source) →
+      (now : ℕ) (local from : Address) (bytes : List ℕ) (fields : StatusMessage) (publication : LogRow) →
       packet_of bytes ≡ Ok (status fields) → publication_at s fields.session_id fields.stream_id ≡ Some publication →
-      log_at e.logs publication.number ≡ None → moved_seen s e (Packet now local from bytes) ≡ stays e unheard
+      log_at e.logs publication.number ≡ None → moved_by s e (Packet now local from bytes) ≡ stays e unheard
   pub nobody :
       (now : ℕ) (local from : Address) (bytes : List ℕ) (fields : StatusMessage) →
       packet_of bytes ≡ Ok (status fields) → publication_at s fields.session_id fields.stream_id ≡ None →
-      moved_seen s e (Packet now local from bytes) ≡ stays e (Dropped (Astray NoStream))
+      moved_by s e (Packet now local from bytes) ≡ stays e (Dropped (Astray NoStream))
 
 abbrev pub JoinsByAnyRegistryAreGrantedExactly : Type 0
 JoinsByAnyRegistryAreGrantedExactly = AtEachRegistry JoinsAreDecidedBy
@@ -239,7 +238,7 @@ asked_of_log e now from fields log frames = record {
 }
 
 -- the verdict of that registry's policy on who asks decides: the NAK goes on to the log's gate exactly where it allows it
-pub record NakIsDecidedBy (s : State) (e : RunEnd) (now : ℕ) (from : Address) (fields : Nak) (publication : Source) (log : WholeLog)
+pub record NakIsDecidedBy (s : State) (e : RunEnd) (now : ℕ) (from : Address) (fields : Nak) (publication : LogRow) (log : WholeLog)
     (frames : Whole) (what : Moved) : Type 0 where
   pub by : IsByPolicy s (resend_question s from publication) (resend_verdict s from publication)
   pub granted : (resend_verdict s from publication).allow ≡ true → what ≡ asked_of_log e now from fields log frames
@@ -250,23 +249,23 @@ pub record NakIsDecidedBy (s : State) (e : RunEnd) (now : ℕ) (from : Address) 
 -- of the publication that has the NAK's session and stream in that registry; nothing else is sent again
 pub record NaksAreDecidedBy (s : State) (e : RunEnd) : Type 0 where
   pub there :
-      (now : ℕ) (local from : Address) (bytes : List ℕ) (fields : Nak) (publication : Source) (log : WholeLog) →
+      (now : ℕ) (local from : Address) (bytes : List ℕ) (fields : Nak) (publication : LogRow) (log : WholeLog) →
       packet_of bytes ≡ Ok (nak fields) → publication_at s fields.session_id fields.stream_id ≡ Some publication →
       log_at e.logs publication.number ≡ Some log →
       (frames : Whole)
       × (log.whole ≡ whole frames)
-      × NakIsDecidedBy s e now from fields publication log frames (moved_seen s e (Packet now local from bytes))
+      × NakIsDecidedBy s e now from fields publication log frames (moved_by s e (Packet now local from bytes))
   pub closed :
-      (now : ℕ) (local from : Address) (bytes : List ℕ) (fields : Nak) (publication : Source) →
+      (now : ℕ) (local from : Address) (bytes : List ℕ) (fields : Nak) (publication : LogRow) →
       packet_of bytes ≡ Ok (nak fields) → publication_at s fields.session_id fields.stream_id ≡ Some publication →
-      log_at e.logs publication.number ≡ None → moved_seen s e (Packet now local from bytes) ≡ stays e unheard
+      log_at e.logs publication.number ≡ None → moved_by s e (Packet now local from bytes) ≡ stays e unheard
   pub nobody :
       (now : ℕ) (local from : Address) (bytes : List ℕ) (fields : Nak) →
       packet_of bytes ≡ Ok (nak fields) → publication_at s fields.session_id fields.stream_id ≡ None →
-      moved_seen s e (Packet now local from bytes) ≡ stays e (Dropped (Astray NoStream))
+      moved_by s e (Packet now local from bytes) ≡ stays e (Dropped (Astray NoStream))
   pub only :
       (now : ℕ) (local from to : Address) (bytes : List ℕ) (datagrams : List (List ℕ)) →
-      Resent to datagrams ≡ (moved_seen s e (Packet now local from bytes)).answer →
+      Resent to datagrams ≡ (moved_by s e (Packet now local from bytes)).answer →
       (fields : Nak) × (packet_of bytes ≡ Ok (nak fields)) × (to ≡ from)
 
 abbrev pub NaksByAnyRegistryAreGrantedExactly : Type 0
@@ -277,9 +276,9 @@ NaksByAnyRegistryAreGrantedExactly = AtEachRegistry NaksAreDecidedBy
 -- A client of that registry is listed exactly what its policy shows, and answered a value exactly where it shows that one, else by
 -- what it is denied; nothing is changed.
 pub record LooksAreDecidedBy (s : State) (e : RunEnd) : Type 0 where
-  pub lists : (now handle : ℕ) → moved_seen s e (Lists now handle) ≡ stays e (answer_listed (list s handle))
+  pub lists : (now handle : ℕ) → moved_by s e (Lists now handle) ≡ stays e (answer_listed (list s handle))
   pub values :
-      (now handle number : ℕ) → moved_seen s e (Value now handle number) ≡ stays e (answer_shown (value s handle number))
+      (now handle number : ℕ) → moved_by s e (Value now handle number) ≡ stays e (answer_shown (value s handle number))
   pub exactly : (handle : ℕ) → LooksExactly s handle
 
 abbrev pub LooksByAnyRegistryAreShownExactly : Type 0

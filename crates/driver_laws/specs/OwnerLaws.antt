@@ -4,7 +4,7 @@ use Rattle.driver_core.specs.State.{State}
 use Rattle.driver_laws.specs.Events.{AfterAnyEvents}
 use Rattle.driver_laws.specs.LeavingLaws.{is_there}
 use Rattle.counters.specs.declared.counter.Counter.{Counter}
-use Rattle.stream_registry.specs.declared.row.Source.{Source}
+use Rattle.stream_registry.specs.declared.row.LogRow.{LogRow}
 use Rattle.stream_registry.specs.declared.row.Registration.{Registration}
 use Rattle.stream_registry.specs.declared.row.Subscription.{Subscription}
 use Rattle.stream_registry.specs.Origins.{is_published, lingering_since}
@@ -28,8 +28,8 @@ RowsHaveTheirClients = AfterAnyEvents HaveTheirClients
 -- ---- logs
 
 -- a publication of that number is live, and does not linger
-pub record HasLog (logs : List Source) (source : ℕ) : Type 0 where
-  pub log : Source
+pub record HasLog (logs : List LogRow) (source : ℕ) : Type 0 where
+  pub log : LogRow
   pub stands : Contains logs log
   pub source_is : log.number ≡ source
   pub published : is_published log ≡ true

@@ -2,12 +2,12 @@
 use Rattle.std.specs.Prelude.{◌≡◌, ℕ, ◌+◌, ℤ, Bool, true, false, List, ◌∷◌, Contains, Some, Ok, Err, unwrap_or, ◌⊎◌}
 use Rattle.std.specs.List.{AllByRecursion}
 use Rattle.driver_core.specs.Change.{Change}
-use Rattle.driver_core.specs.declared.event.Event.{Event}
-use Rattle.driver_core.specs.declared.event.Event.TheVariants.{Command, Setup}
-use Rattle.driver_core.specs.declared.event.Inputs.{Inputs}
-use Rattle.driver_core.specs.declared.refusal.Refusal.TheVariants.{Denied, Full, NoRoom}
-use Rattle.driver_core.specs.declared.replies.Reply.{Reply}
-use Rattle.driver_core.specs.declared.replies.Reply.TheVariants.{PublicationReady, ExclusivePublicationReady}
+use Rattle.driver_core.specs.declared.state.event.Event.{Event}
+use Rattle.driver_core.specs.declared.state.event.Event.TheVariants.{Command, Setup}
+use Rattle.driver_core.specs.declared.state.event.Inputs.{Inputs}
+use Rattle.driver_core.specs.declared.state.refusal.Refusal.TheVariants.{Denied, Full, NoRoom}
+use Rattle.driver_core.specs.declared.state.replies.Reply.{Reply}
+use Rattle.driver_core.specs.declared.state.replies.Reply.TheVariants.{PublicationReady, ExclusivePublicationReady}
 use Rattle.driver_core.specs.Commands.{heard}
 use Rattle.driver_core.specs.Conduct.{coming_to, conduct, state_after}
 use Rattle.driver_core.specs.Publishing.{has_place, has_room_for_publication, opening_of, place_of_new, ready_for, refused_by_streams, session_of, with_directed_publication}
@@ -27,7 +27,7 @@ use Rattle.frame_codec.specs.declared.join.Join.{Join as JoinedAt}
 use Rattle.frame_codec.specs.declared.setup.Setup.{Setup as SetupFrame}
 use Rattle.frame_codec.specs.Join.{join_of}
 use Rattle.stream_registry.specs.declared.fault.StreamFault.{StreamFault}
-use Rattle.stream_registry.specs.declared.row.Source.{Source}
+use Rattle.stream_registry.specs.declared.row.LogRow.{LogRow}
 use Rattle.stream_registry.specs.declared.row.Registration.{Registration}
 use Rattle.stream_registry.specs.declared.wanted.Adding.{Adding}
 use Rattle.stream_registry.specs.declared.wanted.Adding.TheVariants.{Join, Make}
@@ -119,13 +119,13 @@ pub record IsRegisteredBy (s : State) (event : Event) (registration : Registrati
       registration ≡ registration_of (s.last_number + 1) registration.client (wanted_by request) (source_of s adding)
 
 -- the log was live before, but for the moment since when it lingers
-pub record WasLive (streams : Streams) (log : Source) : Type 0 where
-  pub before : Source
+pub record WasLive (streams : Streams) (log : LogRow) : Type 0 where
+  pub before : LogRow
   pub stood : Contains streams.sources before
   pub same : IsSameLog log before
 
 -- the event is such a request, joins no log, and makes this one
-pub record IsLogMadeBy (s : State) (event : Event) (log : Source) : Type 0 where
+pub record IsLogMadeBy (s : State) (event : Event) (log : LogRow) : Type 0 where
   pub registration : Registration
   pub registered : IsRegisteredBy s event registration
   pub session : ℤ
@@ -137,7 +137,7 @@ pub record IsLogMadeBy (s : State) (event : Event) (log : Source) : Type 0 where
 
 -- the event is a SETUP that fits some subscription which the policy in force allows to read it, while there is room and a
 -- place for its log, and makes this image
-pub record IsImageMadeBy (s : State) (event : Event) (log : Source) : Type 0 where
+pub record IsImageMadeBy (s : State) (event : Event) (log : LogRow) : Type 0 where
   pub now : ℕ
   pub local : Address
   pub from : Address
@@ -174,7 +174,7 @@ pub record PublishesOnly (s : State) (event : Event) (change : Change) : Type 0 
       (registration : Registration) → Contains change.after.streams.registrations registration →
       Contains s.streams.registrations registration ⊎ IsRegisteredBy s event registration
   pub logs :
-      (log : Source) → Contains change.after.streams.sources log →
+      (log : LogRow) → Contains change.after.streams.sources log →
       WasLive s.streams log ⊎ (IsLogMadeBy s event log ⊎ IsImageMadeBy s event log)
   pub told :
       AllByRecursion (λ message. IsPublicationTold s event change.after message.client message.reply)
@@ -190,5 +190,5 @@ PublicationsAreGrantedOnly =
 abbrev pub ImagesComeBySetups : Type 0
 ImagesComeBySetups =
     AfterAnyEvents (λ s.
-    (event : Event) (inputs : Inputs) (log : Source) → Contains (state_after s event inputs).streams.sources log →
+    (event : Event) (inputs : Inputs) (log : LogRow) → Contains (state_after s event inputs).streams.sources log →
     is_remote log ≡ true → WasLive s.streams log ⊎ IsImageMadeBy (coming_to s event) event log)

@@ -1,10 +1,10 @@
 -- Over every list of events: which policy is in force, and what a reload closes.
 use Rattle.std.specs.Prelude.{◌≡◌, ℕ, ◌+◌, max, true, false, [], map, filter, None, if◌then◌else◌}
 use Rattle.driver_core.specs.Change.{Change}
-use Rattle.driver_core.specs.declared.event.Event.{Event}
-use Rattle.driver_core.specs.declared.event.Event.TheVariants.{Reload}
-use Rattle.driver_core.specs.declared.event.Inputs.{Inputs}
-use Rattle.driver_core.specs.declared.outcome.Response.TheVariants.{PolicyInForce, PolicyFull}
+use Rattle.driver_core.specs.declared.state.event.Event.{Event}
+use Rattle.driver_core.specs.declared.state.event.Event.TheVariants.{Reload}
+use Rattle.driver_core.specs.declared.state.event.Inputs.{Inputs}
+use Rattle.driver_core.specs.declared.state.outcome.Response.TheVariants.{PolicyInForce, PolicyFull}
 use Rattle.driver_core.specs.Conduct.{conduct, state_after}
 use Rattle.driver_core.specs.Pairs.{pairs_of, lacking}
 use Rattle.driver_core.specs.Reloading.{has_room_for_policy}

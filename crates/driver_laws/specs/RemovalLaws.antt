@@ -1,12 +1,12 @@
 -- Over every list of events: which subscriptions and registrations go.
 use Rattle.std.specs.Prelude.{◌≡◌, ℕ, max, true, false, List, ◌∷◌, map, filter, Contains, ◌⊎◌}
 use Rattle.driver_core.specs.Change.{Change}
-use Rattle.driver_core.specs.declared.event.Event.{Event}
-use Rattle.driver_core.specs.declared.event.Event.TheVariants.{Command}
-use Rattle.driver_core.specs.declared.event.Inputs.{Inputs}
-use Rattle.driver_core.specs.declared.refusal.Refusal.{Refusal}
-use Rattle.driver_core.specs.declared.refusal.Refusal.TheVariants.{UnknownPublication, UnknownSubscription}
-use Rattle.driver_core.specs.declared.replies.Reply.TheVariants.{Error, OperationSuccess}
+use Rattle.driver_core.specs.declared.state.event.Event.{Event}
+use Rattle.driver_core.specs.declared.state.event.Event.TheVariants.{Command}
+use Rattle.driver_core.specs.declared.state.event.Inputs.{Inputs}
+use Rattle.driver_core.specs.declared.state.refusal.Refusal.{Refusal}
+use Rattle.driver_core.specs.declared.state.refusal.Refusal.TheVariants.{UnknownPublication, UnknownSubscription}
+use Rattle.driver_core.specs.declared.state.replies.Reply.TheVariants.{Error, OperationSuccess}
 use Rattle.driver_core.specs.Commands.{heard}
 use Rattle.driver_core.specs.Conduct.{coming_to, conduct, state_after}
 use Rattle.driver_core.specs.Pairs.{pairs_of}

@@ -1,11 +1,11 @@
 -- Over every list of events: SETUPs make images as the policy in force says, and are dropped otherwise.
 use Rattle.std.specs.Prelude.{◌≡◌, ℕ, ◌+◌, ◌<◌, ◌≤◌, true, false, length, filter, Contains, Some, None, Result, Ok, Err}
 use Rattle.driver_core.specs.Change.{Change}
-use Rattle.driver_core.specs.declared.event.Event.TheVariants.{Setup}
-use Rattle.driver_core.specs.declared.event.Inputs.{Inputs}
-use Rattle.driver_core.specs.declared.outcome.Response.TheVariants.{Dropped, Imaged}
-use Rattle.driver_core.specs.declared.setup_fault.SetupFault.{SetupFault}
-use Rattle.driver_core.specs.declared.setup_fault.SetupFault.TheVariants.{BadSetup, Exists, NoSubscription, Denied, Full, NoRoom}
+use Rattle.driver_core.specs.declared.state.event.Event.TheVariants.{Setup}
+use Rattle.driver_core.specs.declared.state.event.Inputs.{Inputs}
+use Rattle.driver_core.specs.declared.state.outcome.Response.TheVariants.{Dropped, Imaged}
+use Rattle.driver_core.specs.declared.state.setup_fault.SetupFault.{SetupFault}
+use Rattle.driver_core.specs.declared.state.setup_fault.SetupFault.TheVariants.{BadSetup, Exists, NoSubscription, Denied, Full, NoRoom}
 use Rattle.driver_core.specs.Conduct.{conduct}
 use Rattle.driver_core.specs.Pairs.{prospects_of}
 use Rattle.driver_core.specs.Renewal.{images_decided, images_told}
@@ -23,7 +23,7 @@ use Rattle.frame_codec.specs.declared.join.Join.{Join}
 use Rattle.frame_codec.specs.declared.setup.Setup.{Setup as SetupFrame}
 use Rattle.frame_codec.specs.Join.{join_of}
 use Rattle.policy_core.specs.declared.verdict.Verdict.{Verdict}
-use Rattle.stream_registry.specs.declared.row.Source.{Source}
+use Rattle.stream_registry.specs.declared.row.LogRow.{LogRow}
 use Rattle.stream_registry.specs.declared.row.Subscription.{Subscription}
 use Rattle.stream_registry.specs.declared.wanted.ImageWanted.{ImageWanted}
 use Rattle.stream_registry.specs.Images.{is_image_at}
@@ -36,14 +36,14 @@ use Rattle.stream_registry.specs.Pairs.{fits}
 
 -- an image of that endpoint, session and stream is live
 pub record IsThere (s : State) (wanted : ImageWanted) : Type 0 where
-  pub image : Source
+  pub image : LogRow
   pub is_live : Contains s.streams.sources image
   pub is_of_it : is_image_at wanted.channel wanted.session wanted.stream image ≡ true
 
 -- none is
 abbrev pub IsNew : State → ImageWanted → Type 0
 IsNew s wanted =
-    (log : Source) → Contains s.streams.sources log →
+    (log : LogRow) → Contains s.streams.sources log →
     is_image_at wanted.channel wanted.session wanted.stream log ≡ false
 
 -- the image fits no subscription

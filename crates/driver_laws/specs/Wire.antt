@@ -8,7 +8,7 @@ use Rattle.frame_codec.specs.Frame.{beat_bytes}
 use Rattle.frame_codec.specs.Position.{position_of}
 use Rattle.frame_codec.specs.Setup.{setup_bytes}
 use Rattle.frame_codec.specs.Written.{Written, all_bytes, padding, part}
-use Rattle.publication_sender.specs.ResendLaws.{joined}
+use Rattle.log_traffic.specs.ResendLaws.{joined}
 use Rattle.term_log.specs.declared.ident.Ident.{Ident}
 use Rattle.term_log.specs.Frames.{Frame, fragment, pad, pad_flags, total}
 use Rattle.term_log.specs.Ident.{place_at}

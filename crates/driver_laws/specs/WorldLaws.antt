@@ -1,21 +1,20 @@
 -- What a world does, by what its driver does: each step goes by the registry of the number that it names, and whatever is said
 -- of the registries and the logs of all runs of a driver holds of worlds. Own rules.
 use Rattle.std.specs.Prelude.{◌≡◌, ℕ, ◌<◌, ◌≤◌, List, [], ◌∷◌, ◌++◌, length, take, Option, Some, None, if◌then◌else◌}
-use Rattle.driver_core.specs.declared.peer.Peer.{Peer}
-use Rattle.driver_core.specs.declared.settings.Settings.{Settings}
+use Rattle.driver_core.specs.declared.state.peer.Peer.{Peer}
+use Rattle.driver_core.specs.declared.state.settings.Settings.{Settings}
 use Rattle.driver_core.specs.Conduct.{state_of}
 use Rattle.driver_core.specs.Soundness.{AreSettings}
 use Rattle.driver_core.specs.State.{State, opened}
 use Rattle.driver_laws.specs.LearningLaws.{AddressesComeAndGoBy}
 use Rattle.driver_laws.specs.OlderLaws.{JoinsAreDecidedBy, LooksAreDecidedBy, NaksAreDecidedBy, OffersAreDecidedBy, PollsAreDecidedBy, SendsAreDecidedBy}
-use Rattle.driver_steps.specs.declared.answer.Answer.{Answer}
-use Rattle.driver_steps.specs.declared.answer.Answer.TheVariants.{BadStep, Polled}
+use Rattle.log_steps.specs.declared.answer.Answer.{Answer}
+use Rattle.log_steps.specs.declared.answer.Answer.TheVariants.{BadStep, Polled}
 use Rattle.driver_steps.specs.declared.step.Step.{Step}
 use Rattle.driver_steps.specs.declared.step.Step.TheVariants.{Poll}
-use Rattle.driver_steps.specs.Ends.{RunEnd as DriverEnd, moved as driver_moved, opening_end as driver_opening}
+use Rattle.driver_steps.specs.Ends.{moved as driver_moved, moved_by, opening_end as driver_opening, RunEnd as DriverEnd}
 use Rattle.driver_steps.specs.Laws.{ComeFromLog, event_of, granted_in, taken_from}
 use Rattle.driver_steps.specs.Runs.{Reading as DriverReading, AreAnswers as AreDriverAnswers, end_of as driver_end, newest}
-use Rattle.driver_steps.specs.Seen.{moved_seen}
 use Rattle.driver_world.specs.declared.actor.Actor.{Actor}
 use Rattle.driver_world.specs.declared.actor.Actor.TheVariants.{Conductor}
 use Rattle.driver_world.specs.declared.reading.Reading.{Reading}
@@ -45,8 +44,8 @@ named_in past (Some k) = k
 -- The step is the driver's by registry k: that decides what it is answered, what it leaves of the logs, and what is decided for
 -- its actor, who stands there from then on. No event is taken.
 pub record GoesBy (e : RunEnd) (actor : Actor) (k : ℕ) (step : Step) (what : Moved) : Type 0 where
-  pub answer : what.answer ≡ (moved_seen (registry_after e.past k) e.driver step).answer
-  pub driver : what.after.driver ≡ (moved_seen (registry_after e.past k) e.driver step).after
+  pub answer : what.answer ≡ (moved_by (registry_after e.past k) e.driver step).answer
+  pub driver : what.after.driver ≡ (moved_by (registry_after e.past k) e.driver step).after
   pub decided :
       what.after.decided ≡ decided_by (record e.driver { registry = registry_after e.past k }) step e.decided
   pub past : what.after.past ≡ e.past

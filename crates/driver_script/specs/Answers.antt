@@ -6,17 +6,17 @@ use Rattle.driver_script.specs.declared.answers.AnswerLine.{AnswerLine}
 use Rattle.driver_script.specs.declared.answers.AnswerLine.TheVariants.{Attached, Full, Stopped, PolicyInForce, PolicyFull, Setup, Unimaged, Dropped, Beat, Status, Elicit, Sent, Withheld, PolicyRefused, Reply, Offer, Poll, Fragment, Gone, List as Lists, Counter, Value, Denied, UnknownCounter, WrongClient, Audit, Decided, NoMemory, BadLine}
 use Rattle.channel_uri.specs.Address.{address_text}
 use Rattle.channel_uri.specs.declared.address.Address.{Address}
-use Rattle.driver_core.specs.declared.setup_fault.SetupFault.{SetupFault}
-use Rattle.driver_core.specs.declared.setup_fault.SetupFault.TheVariants as fault
-use Rattle.driver_core.specs.declared.image_request.Astray.{Astray}
-use Rattle.driver_core.specs.declared.image_request.Astray.TheVariants as astray
-use Rattle.driver_steps.specs.declared.cause.Cause.{Cause}
-use Rattle.driver_steps.specs.declared.cause.Cause.TheVariants as cause
+use Rattle.driver_core.specs.declared.state.setup_fault.SetupFault.{SetupFault}
+use Rattle.driver_core.specs.declared.state.setup_fault.SetupFault.TheVariants as fault
+use Rattle.driver_core.specs.declared.asked.image_request.Astray.{Astray}
+use Rattle.driver_core.specs.declared.asked.image_request.Astray.TheVariants as astray
+use Rattle.log_steps.specs.declared.cause.Cause.{Cause}
+use Rattle.log_steps.specs.declared.cause.Cause.TheVariants as cause
 use Rattle.frame_codec.specs.Fault.{fault_text as unread_text}
 use Rattle.image_log.specs.declared.insert.Insert.{Insert}
 use Rattle.image_log.specs.declared.insert.Insert.TheVariants as insert
-use Rattle.driver_steps.specs.declared.answer.Offered.{Offered}
-use Rattle.driver_steps.specs.declared.answer.Offered.TheVariants as offered
+use Rattle.log_steps.specs.declared.answer.Offered.{Offered}
+use Rattle.log_steps.specs.declared.answer.Offered.TheVariants as offered
 use Rattle.frame_codec.specs.declared.flags.Flags.{Flags}
 use Rattle.policy_core.specs.declared.decision.Decision.{Decision}
 use Rattle.policy_core.specs.declared.verdict.Verdict.{Verdict}

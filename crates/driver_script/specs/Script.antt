@@ -2,14 +2,14 @@
 use Rattle.std.specs.Prelude.{◌≡◌, ℕ, Bool, false, true, List, [], ◌∷◌, ◌++◌, is_some, Option, Some, None, Result, Ok, Err, length, nat_lt, codes, if◌then◌else◌}
 use Rattle.std.specs.Fmt.{decimal}
 use Rattle.std.specs.List.{flat_map, list_any}
-use Rattle.driver_steps.specs.declared.answer.Answer.{Answer}
-use Rattle.driver_steps.specs.declared.answer.Answer.TheVariants.{NoMemory, Attached, Full, Stopped, PolicyInForce, PolicyFull, Imaged, Unimaged, Received, Heard, Limited, Elicited, Idle, Sent, Resent, Reported, Dropped, Replies, Offered, Polled, Gone, Counters, Value, Denied, UnknownCounter, WrongClient, BadStep}
-use Rattle.driver_core.specs.declared.event.Event.TheVariants.{Reload}
-use Rattle.driver_core.specs.declared.listing.ListedCounter.{ListedCounter}
-use Rattle.driver_core.specs.declared.replies.Message.{Message}
-use Rattle.driver_core.specs.declared.peer.Peer.{Peer}
-use Rattle.driver_core.specs.declared.send_request.Outlet.{Outlet}
-use Rattle.driver_core.specs.declared.settings.Settings.{Settings}
+use Rattle.log_steps.specs.declared.answer.Answer.{Answer}
+use Rattle.log_steps.specs.declared.answer.Answer.TheVariants.{NoMemory, Attached, Full, Stopped, PolicyInForce, PolicyFull, Imaged, Unimaged, Received, Heard, Limited, Elicited, Idle, Sent, Resent, Reported, Dropped, Replies, Offered, Polled, Gone, Counters, Value, Denied, UnknownCounter, WrongClient, BadStep}
+use Rattle.driver_core.specs.declared.state.event.Event.TheVariants.{Reload}
+use Rattle.driver_core.specs.declared.asked.listing.ListedCounter.{ListedCounter}
+use Rattle.driver_core.specs.declared.state.replies.Message.{Message}
+use Rattle.driver_core.specs.declared.state.peer.Peer.{Peer}
+use Rattle.driver_core.specs.declared.asked.send_request.Outlet.{Outlet}
+use Rattle.driver_core.specs.declared.state.settings.Settings.{Settings}
 use Rattle.log_pairs.specs.Polling.{Fetched}
 use Rattle.channel_uri.specs.Address.{is_same}
 use Rattle.channel_uri.specs.declared.address.Address.{Address}

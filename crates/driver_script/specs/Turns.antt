@@ -1,9 +1,9 @@
 -- The run of a script, statement by statement: what has been written so far goes before whatever is written from there on.
 use Rattle.std.specs.Prelude.{◌≡◌, ℕ, List, ◌∷◌, ◌++◌, Option, Some, None}
 use Rattle.std.specs.Io.KnownBytes.{Appends}
-use Rattle.driver_steps.specs.declared.answer.Answer.TheVariants.{NoMemory}
-use Rattle.driver_core.specs.declared.peer.Peer.{Peer}
-use Rattle.driver_core.specs.declared.settings.Settings.{Settings}
+use Rattle.log_steps.specs.declared.answer.Answer.TheVariants.{NoMemory}
+use Rattle.driver_core.specs.declared.state.peer.Peer.{Peer}
+use Rattle.driver_core.specs.declared.state.settings.Settings.{Settings}
 use Rattle.driver_world.specs.declared.reading.Reading.{Reading}
 use Rattle.driver_world.specs.Ends.{RunEnd, opening_end}
 use Rattle.driver_world.specs.Standing.{Held, StandsForEnd}

@@ -6,18 +6,17 @@ use Rattle.std.proofs.lemmas.Bool.{eqb-true}
 use Rattle.std.proofs.lemmas.List.Elements.{All-cons, All-filter, All-head, All-nil, All-push, All-tail}
 use Rattle.driver_core.proofs.SoundnessLemmas.{ruled_sound}
 use Rattle.driver_core.specs.Directing.{directed, recalled, with_destination, without_destination}
-use Rattle.driver_core.specs.Draft.{Draft}
-use Rattle.driver_core.specs.declared.event.Event.{Event}
-use Rattle.driver_core.specs.declared.event.Event.TheVariants.{Attach, Command, Reload, Setup, Tick}
-use Rattle.driver_core.specs.declared.event.Inputs.{Inputs}
-use Rattle.driver_core.specs.declared.outcome.Response.{Response}
-use Rattle.driver_core.specs.declared.refusal.Refusal.{Refusal}
+use Rattle.driver_core.specs.Draft.{Draft, answered, told, replied, replied_opening, refused}
+use Rattle.driver_core.specs.declared.state.event.Event.{Event}
+use Rattle.driver_core.specs.declared.state.event.Event.TheVariants.{Attach, Command, Reload, Setup, Tick}
+use Rattle.driver_core.specs.declared.state.event.Inputs.{Inputs}
+use Rattle.driver_core.specs.declared.state.outcome.Response.{Response}
+use Rattle.driver_core.specs.declared.state.refusal.Refusal.{Refusal}
 use Rattle.driver_core.specs.Attaching.{attached}
 use Rattle.driver_core.specs.Closing.{keep_alive, close}
 use Rattle.driver_core.specs.Commands.{heard, at_request}
 use Rattle.driver_core.specs.Conduct.{conduct, drafted, coming_to, moment_told}
 use Rattle.driver_core.specs.Counting.{counted, valued, uncounted}
-use Rattle.driver_core.specs.Draft.{answered, told, replied, replied_opening, refused}
 use Rattle.driver_core.specs.Publishing.{opening_of, published, with_directed_publication, with_publication}
 use Rattle.driver_core.specs.Reloading.{reloaded}
 use Rattle.driver_core.specs.Renewal.{renewed, source_at}
@@ -44,7 +43,7 @@ use Rattle.log_readers.specs.Unread.{is_kept, without_unread as without_unread_i
 use Rattle.policy_core.specs.declared.decision.Decision.{Decision}
 use Rattle.policy_core.specs.RuleList.{Rules}
 use Rattle.stream_registry.specs.declared.lingering.LogPlace.{LogPlace}
-use Rattle.stream_registry.specs.declared.row.Source.{Source}
+use Rattle.stream_registry.specs.declared.row.LogRow.{LogRow}
 use Rattle.stream_registry.specs.declared.wanted.Adding.{Adding}
 use Rattle.stream_registry.specs.declared.wanted.Adding.TheVariants.{Join, Make}
 use Rattle.stream_registry.specs.declared.wanted.Wanted.{Wanted}
@@ -52,10 +51,10 @@ use Rattle.stream_registry.specs.Pairs.{pairs_of as pairs_on}
 
 -- ---- the logs of one number
 
-abbrev IsBrought : Event → ℕ → Source → Type 0
+abbrev IsBrought : Event → ℕ → LogRow → Type 0
 IsBrought event number log = log.number ≡ number → image_terms log ≡ terms_brought event
 
-abbrev BroughtAt : Event → List Source → Option LogPlace → Type 0
+abbrev BroughtAt : Event → List LogRow → Option LogPlace → Type 0
 BroughtAt event logs None = Unit {0}
 BroughtAt event logs (Some place) = All (IsBrought event place.source) logs
 
@@ -63,12 +62,12 @@ BroughtAt event logs (Some place) = All (IsBrought event place.source) logs
 abbrev Brought : Event → Draft → Type 0
 Brought event draft = BroughtAt event draft.after.streams.sources draft.opens
 
-found_step : (P : Source → Type 0) (number : ℕ) (b : Bool) (first : Source) (found : Option Source) → (first.number == number) ≡ b →
+found_step : (P : LogRow → Type 0) (number : ℕ) (b : Bool) (first : LogRow) (found : Option LogRow) → (first.number == number) ≡ b →
     (first.number ≡ number → P first) → IfSome found P → IfSome (cond b (Some first) found) P
 found_step P number true first found same holds rest = holds (eqb-true first.number number same)
 found_step P number false first found same holds rest = rest
 
-found_brings : (event : Event) (number : ℕ) (logs : List Source) → All (IsBrought event number) logs →
+found_brings : (event : Event) (number : ℕ) (logs : List LogRow) → All (IsBrought event number) logs →
     IfSome (source_at logs number) (λ log. image_terms log ≡ terms_brought event)
 found_brings event number [] all = tt
 found_brings event number (first ∷ logs) all =
@@ -77,13 +76,13 @@ found_brings event number (first ∷ logs) all =
     (found_brings event number logs (All-tail (IsBrought event number) first logs all))
 
 -- some of the logs go
-kept_brings : (event : Event) (stays : Source → Bool) (logs : List Source) (opens : Option LogPlace) → BroughtAt event logs opens →
+kept_brings : (event : Event) (stays : LogRow → Bool) (logs : List LogRow) (opens : Option LogPlace) → BroughtAt event logs opens →
     BringsAt event (filter stays logs) opens
 kept_brings event stays logs None brought = tt
 kept_brings event stays logs (Some place) brought =
     found_brings event place.source (filter stays logs) (All-filter stays (IsBrought event place.source) logs brought)
 
-above : (before last : ℕ) (logs : List Source) → Ascend before last logs → before ≤ last
+above : (before last : ℕ) (logs : List LogRow) → Ascend before last logs → before ≤ last
 above before last [] up = up
 above before last (log ∷ logs) up =
     let low = up.0 in
@@ -91,7 +90,7 @@ above before last (log ∷ logs) up =
     omega (arith, low, high)
 
 -- no log has the next number
-none_next : (event : Event) (before last : ℕ) (logs : List Source) → Ascend before last logs → All (IsBrought event (last + 1)) logs
+none_next : (event : Event) (before last : ℕ) (logs : List LogRow) → Ascend before last logs → All (IsBrought event (last + 1)) logs
 none_next event before last [] up = All-nil (IsBrought event (last + 1))
 none_next event before last (log ∷ logs) up =
     let high = above log.number last logs up.1 in

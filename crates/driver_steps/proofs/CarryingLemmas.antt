@@ -3,35 +3,31 @@ use Rattle.std.proofs.Common.{◌≡◌, ℕ, ◌-◌, ◌==◌, not, nat_lt, Li
 use Rattle.std.specs.List.{All, Contains}
 use Rattle.std.proofs.lemmas.Bool.{cond_both, eq-eqb}
 use Rattle.std.proofs.lemmas.List.Elements.{All-nil, All-cons, All-head, All-tail, All-append, All-take, All-drop, All-filter, All-weaker, All-contains_itself, Contains-append_left, Contains-append_right}
-use Rattle.any_log.specs.Whole.{AnyWhole, whole, rebuilt, beaten, polled as any_polled, position_in, received, rejoined, words_in}
 use Rattle.channel_uri.specs.declared.address.Address.{Address}
-use Rattle.driver_core.specs.declared.event.Event.TheVariants.{Setup as SetUp}
-use Rattle.driver_core.specs.declared.image_request.Astray.{Astray}
-use Rattle.driver_core.specs.declared.log_request.LogRequest.{LogRequest}
-use Rattle.driver_core.specs.declared.peer.Peer.{Peer}
-use Rattle.driver_core.specs.declared.settings.Settings.{Settings}
+use Rattle.driver_core.specs.declared.state.event.Event.TheVariants.{Setup as SetUp}
+use Rattle.driver_core.specs.declared.asked.image_request.Astray.{Astray}
+use Rattle.driver_core.specs.declared.asked.log_request.LogRequest.{LogRequest}
+use Rattle.driver_core.specs.declared.state.peer.Peer.{Peer}
+use Rattle.driver_core.specs.declared.state.settings.Settings.{Settings}
 use Rattle.driver_core.specs.LogRequests.{offering_of, receiving_of}
 use Rattle.driver_core.specs.PublicationRequests.{joining_of, publisher_of, resending_of}
 use Rattle.driver_core.specs.Readers.{readers_of}
 use Rattle.driver_core.specs.State.{State}
-use Rattle.any_log.proofs.StillLemmas.{IsStill}
 use Rattle.driver_steps.proofs.PacketLemmas.{asked_cases, told_cases}
 use Rattle.driver_steps.proofs.QuietLemmas.{IsQuiet, report_cases, send_quiet, still_holds}
 use Rattle.driver_steps.proofs.LiveLemmas.{IsKept, event_keeps, found_log, log_keeps, poll_gives, step_either}
-use Rattle.driver_steps.specs.Sending.{send_move}
-use Rattle.driver_steps.specs.declared.answer.Answer.{Answer}
-use Rattle.driver_steps.specs.declared.answer.Answer.TheVariants.{NoMemory, Offered as OfferedAs, Polled, Gone as IsGone, Received}
-use Rattle.driver_steps.specs.declared.answer.Offered.TheVariants.{Closed}
+use Rattle.log_steps.specs.Sending.{send_move}
+use Rattle.log_steps.specs.declared.answer.Answer.{Answer}
+use Rattle.log_steps.specs.declared.answer.Answer.TheVariants.{NoMemory, Offered as OfferedAs, Polled, Gone as IsGone, Received}
+use Rattle.log_steps.specs.declared.answer.Offered.TheVariants.{Closed}
 use Rattle.driver_steps.specs.declared.step.Step.{Step}
 use Rattle.driver_steps.specs.declared.step.Step.TheVariants.{Conductor, Packet, Offer as Offers, Poll as Polls, Image, List as Lists, Send, Value}
 use Rattle.driver_steps.specs.CarryingLaws.{carried_for, carried_on, carried_by, carried_in, IsCarried, PayloadsComeFromTheirPublisher}
-use Rattle.driver_steps.specs.Ends.{RunEnd, Moved, opening_end, log_at, moved_on, on_image, on_log, on_offered_by}
+use Rattle.driver_steps.specs.Ends.{image_by, log_at, Moved, moved_by, moved_on, on_image, on_log, on_offered, on_packet, opening_end, RunEnd}
 use Rattle.driver_steps.specs.Runs.{Reading, AreAnswers, IsAnswerTo, end_of, left_by, moved_to, read_by}
-use Rattle.driver_steps.specs.Seen.{image_seen, moved_seen, packet_seen}
-use Rattle.driver_steps.proofs.ReadLemmas.{by_seen, holds_by}
-use Rattle.driver_steps.specs.Idents.{begins_by}
-use Rattle.driver_steps.specs.Moves.{WholeLog, Move, offer_to, offer_under, offer_move, poll_under, poll_move}
-use Rattle.driver_steps.specs.Receiving.{beat_move, receive_move, unheard}
+use Rattle.log_steps.specs.Idents.{begins_by}
+use Rattle.log_steps.specs.Moves.{WholeLog, Move, offer_to, offer_under, offer_move, poll_under, poll_move}
+use Rattle.log_steps.specs.Receiving.{beat_move, receive_move, unheard}
 use Rattle.frame_codec.specs.declared.fault.BadPacket.{BadPacket}
 use Rattle.frame_codec.specs.declared.header.TermPlace.{TermPlace}
 use Rattle.frame_codec.specs.Datagram.{Content, frames, beat, nak, status, setup, packet_of}
@@ -44,14 +40,16 @@ use Rattle.image_log.specs.Order.{begins_from, begins_within, rank}
 use Rattle.image_log.specs.Polling.{fetched, polled as image_polled, polled_frame, polled_from, whole_from}
 use Rattle.image_log.specs.Reading.{is_pad}
 use Rattle.image_log.specs.Rebuilt.{Rebuilt, after_insert, contiguous_of, frames_after, insert_of, settled}
-use Rattle.image_receiver.specs.Receiving.{after_beat, after_data, after_frame, after_frames}
 use Rattle.log_pairs.specs.Pairs.{position_of}
 use Rattle.log_pairs.specs.Polling.{Fetched, Polled as Passed, counted, fragments_of, passed, with_fragment}
+use Rattle.log_traffic.specs.Whole.{AnyWhole, whole, rebuilt, beaten, polled as any_polled, position_in, received, rejoined, words_in}
+use Rattle.log_traffic.proofs.StillLemmas.{IsStill}
+use Rattle.log_traffic.specs.Receiving.{after_beat, after_data, after_frame, after_frames}
 use Rattle.policy_core.specs.declared.verdict.Verdict.{Verdict}
 use Rattle.policy_core.specs.RuleList.{Rules}
 use Rattle.stream_registry.specs.declared.row.Origin.{Origin}
 use Rattle.stream_registry.specs.declared.row.Origin.TheVariants.{Published, Remote}
-use Rattle.stream_registry.specs.declared.row.Source.{Source}
+use Rattle.stream_registry.specs.declared.row.LogRow.{LogRow}
 use Rattle.term_log.specs.Log.{greatest_message}
 use Rattle.term_log.specs.Whole.{is_connected}
 
@@ -89,7 +87,7 @@ all_more carried more is logs holds =
 
 -- ---- one log
 
-begins_holds : (carried : List (List ℕ)) (settings : Settings) (now : ℕ) (log : Source) (origin : Origin) →
+begins_holds : (carried : List (List ℕ)) (settings : Settings) (now : ℕ) (log : LogRow) (origin : Origin) →
     HoldsCarried carried (begins_by settings now log origin)
 begins_holds carried settings now log (Published exclusive since) = tt
 begins_holds carried settings now log (Remote address initial_term join) =
@@ -249,14 +247,14 @@ quiet_holds carried e source move absent quiet holds =
     holds
 
 packet_holds : (more : ℕ → List (List ℕ)) (s : State) (e : RunEnd) (now : ℕ) (local from : Address) (read : Result Content BadPacket) →
-    IsCarriedFor more (λ source. carried_on s e source local from read) (packet_seen s e now local from read).answer →
-    All (Holds more) e.logs → All (Holds more) (packet_seen s e now local from read).after.logs
+    IsCarriedFor more (λ source. carried_on s e source local from read) (on_packet s e now local from read).answer →
+    All (Holds more) e.logs → All (Holds more) (on_packet s e now local from read).after.logs
 packet_holds more s e now local from (Err fault) comes holds = holds
 packet_holds more s e now local from (Ok (frames [])) comes holds = holds
 packet_holds more s e now local from (Ok (frames (frame ∷ later))) comes holds =
-    receive_holds more e now (frame ∷ later) (image_seen s e local from frame.header.place) comes holds
+    receive_holds more e now (frame ∷ later) (image_by s e local from frame.header.place) comes holds
 packet_holds more s e now local from (Ok (beat header)) comes holds =
-    beat_holds more e now header.place (image_seen s e local from header.place) holds
+    beat_holds more e now header.place (image_by s e local from header.place) holds
 packet_holds more s e now local from (Ok (setup fields)) comes holds =
     event_keeps (Holds more) e (SetUp now local from fields) (holds_kept more) holds
 packet_holds more s e now local from (Ok (nak fields)) comes holds =
@@ -270,7 +268,7 @@ packet_holds more s e now local from (Ok (status fields)) comes holds =
 
 offer_holds : (more : ℕ → List (List ℕ)) (s : State) (e : RunEnd) (now client registration : ℕ) (message : List ℕ)
     (o : Option LogRequest) → All (Holds more) e.logs →
-    All (Holds more) (on_offered_by s e now client registration message o).after.logs
+    All (Holds more) (on_offered s e now client registration message o).after.logs
 unfolding offer_move
 offer_holds more s e now client registration message None holds = holds
 offer_holds more s e now client registration message (Some request) holds =
@@ -294,11 +292,11 @@ abbrev pub carried_with : (ℕ → List (List ℕ)) → State → RunEnd → Ste
 carried_with carried s e step answer source = carried source ++ carried_by s e source step answer
 
 moved_holds : (carried : ℕ → List (List ℕ)) (s : State) (e : RunEnd) (step : Step) →
-    All (Holds (carried_with carried s e step (moved_seen s e step).answer)) e.logs →
-    All (Holds (carried_with carried s e step (moved_seen s e step).answer)) (moved_seen s e step).after.logs
+    All (Holds (carried_with carried s e step (moved_by s e step).answer)) e.logs →
+    All (Holds (carried_with carried s e step (moved_by s e step).answer)) (moved_by s e step).after.logs
 moved_holds carried s e (Packet now local from bytes) holds =
     let step : Step = Packet now local from bytes in
-    let answer : Answer = (moved_seen s e step).answer in
+    let answer : Answer = (moved_by s e step).answer in
     packet_holds (carried_with carried s e step answer) s e now local from (packet_of bytes)
     (λ words is source one has.
     Contains-append_right (carried source) (carried_by s e source step answer) one
@@ -306,22 +304,22 @@ moved_holds carried s e (Packet now local from bytes) holds =
     holds
 moved_holds carried s e (Conductor event) holds =
     let step : Step = Conductor event in
-    let more : ℕ → List (List ℕ) = carried_with carried s e step (moved_seen s e step).answer in
+    let more : ℕ → List (List ℕ) = carried_with carried s e step (moved_by s e step).answer in
     event_keeps (Holds more) e event (holds_kept more) holds
 moved_holds carried s e (Offers now client registration message) holds =
     let step : Step = Offers now client registration message in
-    offer_holds (carried_with carried s e step (moved_seen s e step).answer) s e now client registration message
+    offer_holds (carried_with carried s e step (moved_by s e step).answer) s e now client registration message
     (offering_of s client registration) holds
 moved_holds carried s e (Polls now client subscription source limit) holds =
     let step : Step = Polls now client subscription source limit in
-    poll_holds (carried_with carried s e step (moved_seen s e step).answer) s e client subscription source limit holds
+    poll_holds (carried_with carried s e step (moved_by s e step).answer) s e client subscription source limit holds
 moved_holds carried s e (Send now source) holds =
     let step : Step = Send now source in
-    quiet_holds (carried_with carried s e step (moved_seen s e step).answer) e source (send_move s now) IsGone
+    quiet_holds (carried_with carried s e step (moved_by s e step).answer) e source (send_move s now) IsGone
     (send_quiet s now) holds
 moved_holds carried s e (Image now source) holds =
     let step : Step = Image now source in
-    let more : ℕ → List (List ℕ) = carried_with carried s e step (moved_seen s e step).answer in
+    let more : ℕ → List (List ℕ) = carried_with carried s e step (moved_by s e step).answer in
     report_cases (λ what. All (Holds more) what.after.logs) s e now source holds
     (λ move quiet. quiet_holds more e source move IsGone quiet holds) (publisher_of s source)
 moved_holds carried s e (Lists now client) holds = holds
@@ -344,8 +342,7 @@ step_holds carried e reading answer is holds =
     let s : State = read_by e reading.older in
     step_either (λ told end. All (Holds (carried_with carried s e reading.step told)) end.logs) e (moved_to e reading) answer is
     (with_more carried s e reading.step NoMemory holds)
-    (holds_by (Came carried s e reading.step) e reading.older reading.step
-    (moved_holds carried s e reading.step (with_more carried s e reading.step (moved_seen s e reading.step).answer holds)))
+    (moved_holds carried s e reading.step (with_more carried s e reading.step (moved_by s e reading.step).answer holds))
 
 -- ---- runs
 
@@ -438,7 +435,5 @@ payloads_come settings policy peers readings answers older now client subscripti
     let first : RunEnd = opening_end settings policy peers in
     let last : RunEnd = end_of first readings answers in
     let s : State = read_by last older in
-    let told : Polled fragments ≡ (moved_seen s last (Polls now client subscription source limit)).answer =
-    is ∙ sym (ap (λ (what : Moved). what.answer) (by_seen last older (Polls now client subscription source limit))) in
     poll_carried (λ n. carried_in first n readings answers) s last client subscription source limit
-    fragments log r found same (run_holds (λ n. []) first readings answers are (opening_holds settings policy peers)) told
+    fragments log r found same (run_holds (λ n. []) first readings answers are (opening_holds settings policy peers)) is

@@ -2,11 +2,11 @@
 use Rattle.std.proofs.Common.{◌≡◌, ℕ, ◌==◌, ◌&&◌, ◌||◌, not, nat_lt, Bool, true, false, cond, List, [], ◌∷◌, length, map, filter, Option, Some, None, refl, sym, ap, subst, ◌∙◌}
 use Rattle.std.specs.List.{All, list_any}
 use Rattle.std.proofs.lemmas.Bool.{cond_both, eq-eqb, eqb-true, ne_eqb}
-use Rattle.any_log.specs.Held.{Made, for_publication, for_stream}
-use Rattle.any_log.specs.Whole.{AnyWhole, whole, rebuilt, made_for as made_any, position_in, readers_in}
-use Rattle.any_log.proofs.AnyLemmas.{reader_stands}
-use Rattle.driver_core.specs.declared.log_request.LogRequest.{LogRequest}
-use Rattle.driver_core.specs.declared.settings.Settings.{Settings}
+use Rattle.log_traffic.specs.Held.{Made, for_publication, for_stream}
+use Rattle.log_traffic.specs.Whole.{AnyWhole, whole, rebuilt, made_for as made_any, position_in, readers_in}
+use Rattle.log_traffic.proofs.AnyLemmas.{reader_stands}
+use Rattle.driver_core.specs.declared.asked.log_request.LogRequest.{LogRequest}
+use Rattle.driver_core.specs.declared.state.settings.Settings.{Settings}
 use Rattle.driver_core.specs.LogRequests.{offering_of, offered_by, receiving_of, received_on, registration_at, has_pair, row_decision}
 use Rattle.driver_core.specs.Pairs.{pairs_of}
 use Rattle.driver_core.specs.Renewal.{source_at, subscription_at}
@@ -14,15 +14,15 @@ use Rattle.driver_core.specs.State.{State}
 use Rattle.driver_core.proofs.VerdictLemmas.{by_policy}
 use Rattle.client_registry.specs.declared.client.Client.{Client}
 use Rattle.client_registry.specs.Clients.{client_at}
-use Rattle.driver_steps.specs.declared.answer.Answer.{Answer}
-use Rattle.driver_steps.specs.declared.answer.Answer.TheVariants.{Offered as OfferedAs, Gone as IsGone, Denied}
-use Rattle.driver_steps.specs.declared.answer.Offered.TheVariants.{Closed, TooLong, NotConnected}
+use Rattle.log_steps.specs.declared.answer.Answer.{Answer}
+use Rattle.log_steps.specs.declared.answer.Answer.TheVariants.{Offered as OfferedAs, Gone as IsGone, Denied}
+use Rattle.log_steps.specs.declared.answer.Offered.TheVariants.{Closed, TooLong, NotConnected}
 use Rattle.driver_steps.specs.declared.step.Step.TheVariants.{Offer, Poll}
 use Rattle.driver_steps.specs.Ends.{RunEnd, Moved, log_at, with_log, moved_on, on_log, on_offered, moved}
 use Rattle.driver_core.specs.Readers.{readers_of}
-use Rattle.driver_steps.specs.Idents.{made_by, made_of}
+use Rattle.log_steps.specs.Idents.{made_by, made_of}
 use Rattle.driver_steps.specs.Laws.{made_for, made_as, LogsFollow, OfferRequest, AsksToOffer, offer_question, stays, taken_by_log, let_through, OfferIsDecided, OffersAreDecided, OffersAreGrantedExactly, PollRequest, AsksToPoll, poll_question, given_by_log, PollIsDecided, PollsAreDecided, PollsAreGrantedExactly}
-use Rattle.driver_steps.specs.Moves.{WholeLog, Move, answered, taken, given, offer_let, offer_to, offer_under, offer_move, poll_under, poll_move}
+use Rattle.log_steps.specs.Moves.{WholeLog, Move, answered, taken, given, offer_let, offer_to, offer_under, offer_move, poll_under, poll_move}
 use Rattle.driver_steps.proofs.FoundLemmas.{found_holds, found_source, with_same}
 use Rattle.driver_steps.proofs.FollowLemmas.{logs_follow}
 use Rattle.driver_steps.proofs.RegisteredLemmas.{ends_registered, registered_publication}
@@ -33,7 +33,7 @@ use Rattle.stream_registry.specs.declared.row.Subscription.{Subscription}
 use Rattle.stream_registry.specs.Pairs.{is_of}
 use Rattle.stream_registry.specs.declared.row.Origin.{Origin}
 use Rattle.stream_registry.specs.declared.row.Origin.TheVariants.{Published, Remote}
-use Rattle.stream_registry.specs.declared.row.Source.{Source}
+use Rattle.stream_registry.specs.declared.row.LogRow.{LogRow}
 use Rattle.stream_registry.specs.Origins.{is_published, is_published_by}
 use Rattle.term_log.specs.Log.{greatest_message}
 use Rattle.term_log.specs.Whole.{Whole, is_connected}
@@ -86,7 +86,7 @@ offer_is : (e : RunEnd) (now handle number : ℕ) (message : List ℕ) (asked : 
     ≡ left_by e asked.source (offer_under e.registry now message log (Some asked))
 unfolding offer_move
 offer_is e now handle number message asked log is found =
-    ap (on_offered e now handle number message) is
+    ap (on_offered e.registry e now handle number message) is
     ∙ log_moves e asked.source (offer_move e.registry now handle number message) (OfferedAs Closed) log found
     ∙ ap (λ (o : Option LogRequest). left_by e asked.source (offer_under e.registry now message log o)) is
 
@@ -142,7 +142,7 @@ appended_for (whole frames) is = (frames, refl)
 appended_for (rebuilt frames) is = absurd is
 
 -- what a publication's log is made for
-pub published_made : (settings : Settings) (log : Source) (origin : Origin) → is_published_by origin ≡ true →
+pub published_made : (settings : Settings) (log : LogRow) (origin : Origin) → is_published_by origin ≡ true →
     IsForPublication (made_by settings log origin)
 published_made settings log (Published exclusive since) is = tt
 published_made settings log (Remote address initial_term join) is = absurd (cc is)
@@ -156,7 +156,7 @@ rest_of [] = []
 rest_of (x ∷ xs) = xs
 
 -- the log that is found is made for what the source is of which it is
-made_by_cond : (settings : Settings) (b : Bool) (first log : WholeLog) (source publication : Source) (logs : Option WholeLog) (sources : Option Source) →
+made_by_cond : (settings : Settings) (b : Bool) (first log : WholeLog) (source publication : LogRow) (logs : Option WholeLog) (sources : Option LogRow) →
     made_any first.whole ≡ made_of settings source →
     (logs ≡ Some log → sources ≡ Some publication → made_any log.whole ≡ made_of settings publication) →
     cond b (Some first) logs ≡ Some log → cond b (Some source) sources ≡ Some publication →
@@ -167,7 +167,7 @@ made_by_cond settings true first log source publication logs sources made rest f
     ap (λ (l : WholeLog). made_any l.whole) (sym same_log) ∙ made ∙ ap (made_of settings) same_source
 made_by_cond settings false first log source publication logs sources made rest found is = rest found is
 
-pub made_at : (settings : Settings) (logs : List WholeLog) (sources : List Source) (number : ℕ) (log : WholeLog) (publication : Source) →
+pub made_at : (settings : Settings) (logs : List WholeLog) (sources : List LogRow) (number : ℕ) (log : WholeLog) (publication : LogRow) →
     map made_for logs ≡ map (made_as settings) sources → log_at logs number ≡ Some log →
     source_at sources number ≡ Some publication → made_any log.whole ≡ made_of settings publication
 unfolding first_of rest_of
@@ -181,14 +181,14 @@ made_at settings (first ∷ logs) (source ∷ sources) number log publication ma
     (ap (λ (m : ℕ × Made). m.1) both) (made_at settings logs sources number log publication others) found
     (ap (λ (n : ℕ). cond (n == number) (Some source) (source_at sources number)) same ∙ is)
 
-found_number_by : (number : ℕ) (b : Bool) (first log : Source) (found : Option Source) → (first.number == number) ≡ b →
+found_number_by : (number : ℕ) (b : Bool) (first log : LogRow) (found : Option LogRow) → (first.number == number) ≡ b →
     (found ≡ Some log → log.number ≡ number) → cond b (Some first) found ≡ Some log → log.number ≡ number
 found_number_by number true first log found same rest is =
     let one : first ≡ log = cc in
-    ap (λ (l : Source). l.number) (sym one) ∙ eqb-true first.number number same
+    ap (λ (l : LogRow). l.number) (sym one) ∙ eqb-true first.number number same
 found_number_by number false first log found same rest is = rest is
 
-found_number : (number : ℕ) (logs : List Source) (log : Source) → source_at logs number ≡ Some log → log.number ≡ number
+found_number : (number : ℕ) (logs : List LogRow) (log : LogRow) → source_at logs number ≡ Some log → log.number ≡ number
 found_number number [] log is = absurd (cc)
 found_number number (first ∷ logs) log is =
     found_number_by number (first.number == number) first log (source_at logs number) refl (found_number number logs log) is
@@ -198,7 +198,7 @@ registered_appended : (e : RunEnd) → LogsFollow e → AreRegistered e.registry
     AsksToOffer e.registry handle number request → log_at e.logs request.publication.number ≡ Some log → IsAppended log
 registered_appended e follows registered handle number request log asks found =
     let settings : Settings = e.registry.settings in
-    let publication : Source = request.publication in
+    let publication : LogRow = request.publication in
     let same : publication.number ≡ request.registration.source =
     found_number request.registration.source e.registry.streams.sources publication asks.publication_is in
     let is : source_at e.registry.streams.sources publication.number ≡ Some publication =
@@ -244,7 +244,7 @@ offers_decided : (e : RunEnd) → LogsFollow e → AreRegistered e.registry → 
 offers_decided e follows registered = record {
   there = offer_there e follows registered;
   unregistered = λ now handle number message none.
-      ap (on_offered e now handle number message) (offering_none e.registry handle number none);
+      ap (on_offered e.registry e now handle number message) (offering_none e.registry handle number none);
 }
 
 pub offers_exactly : OffersAreGrantedExactly

@@ -1,33 +1,31 @@
 -- What holds along runs; and a run leaves the registry that its events leave.
 use Rattle.std.proofs.Common.{◌≡◌, ℕ, List, [], ◌∷◌, ◌++◌, Option, Some, None, Result, Ok, Err, refl, sym, ap, ◌∙◌, subst}
-use Rattle.driver_core.specs.declared.event.Event.{Event}
-use Rattle.driver_core.specs.declared.event.Inputs.{Inputs}
-use Rattle.driver_core.specs.declared.log_request.LogRequest.{LogRequest}
-use Rattle.driver_core.specs.declared.publication_request.JoinRequest.{JoinRequest}
-use Rattle.driver_core.specs.declared.peer.Peer.{Peer}
-use Rattle.driver_core.specs.declared.settings.Settings.{Settings}
+use Rattle.driver_core.specs.declared.state.event.Event.{Event}
+use Rattle.driver_core.specs.declared.state.event.Inputs.{Inputs}
+use Rattle.driver_core.specs.declared.asked.log_request.LogRequest.{LogRequest}
+use Rattle.driver_core.specs.declared.asked.publication_request.JoinRequest.{JoinRequest}
+use Rattle.driver_core.specs.declared.state.peer.Peer.{Peer}
+use Rattle.driver_core.specs.declared.state.settings.Settings.{Settings}
 use Rattle.driver_core.specs.Conduct.{outcome_of, state_after, state_of}
-use Rattle.driver_core.specs.declared.image_request.Astray.{Astray}
+use Rattle.driver_core.specs.declared.asked.image_request.Astray.{Astray}
 use Rattle.driver_core.specs.Listing.{list, value}
 use Rattle.driver_core.specs.LogRequests.{offering_of}
 use Rattle.driver_core.specs.PublicationRequests.{joining_of, publisher_of, resending_of}
 use Rattle.driver_core.specs.State.{State, opened}
-use Rattle.driver_steps.specs.Sending.{send_move}
-use Rattle.driver_steps.specs.declared.answer.Answer.{Answer}
-use Rattle.driver_steps.specs.declared.answer.Answer.TheVariants.{NoMemory, Offered as OfferedAs, Gone as IsGone}
-use Rattle.driver_steps.specs.declared.answer.Offered.TheVariants.{Closed}
+use Rattle.log_steps.specs.Sending.{send_move}
+use Rattle.log_steps.specs.declared.answer.Answer.{Answer}
+use Rattle.log_steps.specs.declared.answer.Answer.TheVariants.{NoMemory, Offered as OfferedAs, Gone as IsGone}
+use Rattle.log_steps.specs.declared.answer.Offered.TheVariants.{Closed}
 use Rattle.driver_steps.specs.declared.step.Step.{Step}
 use Rattle.driver_steps.specs.declared.step.Step.TheVariants.{Conductor, Packet, Offer, Poll, Image, List as Lists, Send, Value}
-use Rattle.driver_steps.specs.Answers.{answer_of, answer_listed, answer_shown}
-use Rattle.driver_steps.specs.Ends.{RunEnd, Moved, after_by, opening_end, inputs_of, log_at, moved_on, on_asked, on_image, on_log, on_offered_by, on_report_by, on_told, conducted, moved, IsAnswer}
-use Rattle.driver_steps.specs.Runs.{Reading, end_of, left_by, moved_by, moved_to, read_by}
-use Rattle.driver_steps.specs.Seen.{image_seen, moved_seen, packet_seen}
-use Rattle.driver_steps.proofs.ReadLemmas.{holds_by}
-use Rattle.driver_steps.specs.Hearing.{nak_move, status_move}
+use Rattle.log_steps.specs.Answers.{answer_of, answer_listed, answer_shown}
+use Rattle.driver_steps.specs.Ends.{after_by, conducted, image_by, inputs_of, IsAnswer, log_at, Moved, moved, moved_by, moved_on, on_asked, on_image, on_log, on_offered, on_packet, on_report, on_told, opening_end, RunEnd}
+use Rattle.driver_steps.specs.Runs.{Reading, end_of, left_by, moved_to, read_by}
+use Rattle.log_steps.specs.Hearing.{nak_move, status_move}
 use Rattle.driver_steps.specs.Laws.{event_in, event_of, taken_by, taken_from, registry_of, IsTold, TakesEvents, RunsTakeEvents}
-use Rattle.driver_steps.specs.Moves.{WholeLog, Move, offer_move, poll_move}
-use Rattle.driver_steps.specs.Receiving.{beat_move, receive_move, unheard}
-use Rattle.driver_steps.specs.Reporting.{report_move}
+use Rattle.log_steps.specs.Moves.{WholeLog, Move, offer_move, poll_move}
+use Rattle.log_steps.specs.Receiving.{beat_move, receive_move, unheard}
+use Rattle.log_steps.specs.Reporting.{report_move}
 use Rattle.channel_uri.specs.declared.address.Address.{Address}
 use Rattle.frame_codec.specs.declared.fault.BadPacket.{BadPacket}
 use Rattle.frame_codec.specs.declared.nak.Nak.{Nak}
@@ -43,14 +41,14 @@ after_both P e what NoMemory same moves = same
 after_both P e what answer same moves = moves
 
 -- what each step keeps, whichever registry it goes by, each run keeps
-pub run_keeps : (P : RunEnd → Type 0) → ((s : State) (e : RunEnd) (step : Step) → P e → P (moved_seen s e step).after) →
+pub run_keeps : (P : RunEnd → Type 0) → ((s : State) (e : RunEnd) (step : Step) → P e → P (moved_by s e step).after) →
     (e : RunEnd) (readings : List Reading) (answers : List Answer) → P e → P (end_of e readings answers)
 run_keeps P keeps e [] answers holds = holds
 run_keeps P keeps e (reading ∷ readings) [] holds = holds
 run_keeps P keeps e (reading ∷ readings) (answer ∷ answers) holds =
     run_keeps P keeps (left_by e reading answer) readings answers
     (after_both P e (moved_to e reading) answer holds
-    (holds_by (λ what. P what.after) e reading.older reading.step (keeps (read_by e reading.older) e reading.step holds)))
+    (keeps (read_by e reading.older) e reading.step holds))
 
 -- ---- the registry that a step leaves
 
@@ -61,7 +59,7 @@ move_keeps_registry e source move absent (Some log) = refl
 
 -- an offer leaves the registry as it was
 pub offer_keeps_registry : (s : State) (e : RunEnd) (now client registration : ℕ) (message : List ℕ) (o : Option LogRequest) →
-    (on_offered_by s e now client registration message o).after.registry ≡ e.registry
+    (on_offered s e now client registration message o).after.registry ≡ e.registry
 unfolding on_log
 offer_keeps_registry s e now client registration message None = refl
 offer_keeps_registry s e now client registration message (Some request) =
@@ -92,21 +90,21 @@ told_keeps_registry e now from fields (Some request) =
     log_keeps_registry e request.source (status_move now from request.decision fields) unheard
 
 pub report_keeps_registry : (s : State) (e : RunEnd) (now source : ℕ) (to : Option Address) →
-    (on_report_by s e now source to).after.registry ≡ e.registry
+    (on_report s e now source to).after.registry ≡ e.registry
 report_keeps_registry s e now source None = refl
 report_keeps_registry s e now source (Some to) =
     log_keeps_registry e source (report_move now s.settings.receiver_id to) IsGone
 
 -- of datagrams, SETUPs alone are events
 packet_takes_event : (s : State) (e : RunEnd) (now : ℕ) (local from : Address) (read : Result Content BadPacket) →
-    (packet_seen s e now local from read).after.registry ≡ state_of e.registry (event_in e now local from read)
+    (on_packet s e now local from read).after.registry ≡ state_of e.registry (event_in e now local from read)
 unfolding conducted
 packet_takes_event s e now local from (Err fault) = refl
 packet_takes_event s e now local from (Ok (frames [])) = refl
 packet_takes_event s e now local from (Ok (frames (frame ∷ later))) =
-    image_keeps_registry e (receive_move now (frame ∷ later)) (image_seen s e local from frame.header.place)
+    image_keeps_registry e (receive_move now (frame ∷ later)) (image_by s e local from frame.header.place)
 packet_takes_event s e now local from (Ok (beat header)) =
-    image_keeps_registry e (beat_move now header.place) (image_seen s e local from header.place)
+    image_keeps_registry e (beat_move now header.place) (image_by s e local from header.place)
 packet_takes_event s e now local from (Ok (setup fields)) = refl
 packet_takes_event s e now local from (Ok (nak fields)) =
     asked_keeps_registry e now from fields (resending_of s from fields.session_id fields.stream_id)
@@ -114,7 +112,7 @@ packet_takes_event s e now local from (Ok (status fields)) =
     told_keeps_registry e now from fields (joining_of s from fields.session_id fields.stream_id)
 
 -- any step leaves the registry that its events leave
-moved_takes : (s : State) (e : RunEnd) (step : Step) → (moved_seen s e step).after.registry ≡ state_of e.registry (event_of e step)
+pub moved_takes : (s : State) (e : RunEnd) (step : Step) → (moved_by s e step).after.registry ≡ state_of e.registry (event_of e step)
 unfolding conducted
 moved_takes s e (Conductor event) = refl
 moved_takes s e (Packet now local from bytes) = packet_takes_event s e now local from (packet_of bytes)
@@ -126,12 +124,6 @@ moved_takes s e (Send now source) = log_keeps_registry e source (send_move s now
 moved_takes s e (Image now source) = report_keeps_registry s e now source (publisher_of s source)
 moved_takes s e (Lists now client) = refl
 moved_takes s e (Value now client number) = refl
-
-pub reading_takes : (e : RunEnd) (older : Option State) (step : Step) →
-    (moved_by e older step).after.registry ≡ state_of e.registry (event_of e step)
-reading_takes e older step =
-    holds_by (λ what. what.after.registry ≡ state_of e.registry (event_of e step)) e older step
-    (moved_takes (read_by e older) e step)
 
 step_takes : (e : RunEnd) (step : Step) (what : Moved) (answer : Answer) → what.after.registry ≡ state_of e.registry (event_of e step) →
     (after_by e what answer).registry ≡ state_of e.registry (taken_by e step answer)
@@ -153,7 +145,7 @@ run_takes e (reading ∷ readings) (answer ∷ answers) =
     let more : List (Event × Inputs) = taken_from (left_by e reading answer) readings answers in
     run_takes (left_by e reading answer) readings answers
     ∙ ap (λ (s : State). state_of s more)
-    (step_takes e reading.step (moved_to e reading) answer (reading_takes e reading.older reading.step))
+    (step_takes e reading.step (moved_to e reading) answer (moved_takes (read_by e reading.older) e reading.step))
     ∙ sym (state_of_both e.registry (taken_by e reading.step answer) more)
 
 -- ---- what comes next

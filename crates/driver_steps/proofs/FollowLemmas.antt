@@ -5,14 +5,14 @@ use Rattle.std.specs.List.{All}
 use Rattle.std.proofs.lemmas.Bool.{cond_both}
 use Rattle.std.proofs.lemmas.List.{map-append}
 use Rattle.std.proofs.lemmas.List.Elements.{All-nil, All-cons, filter-append}
-use Rattle.any_log.specs.Held.{Made}
-use Rattle.any_log.specs.Whole.{AnyWhole, whole, rebuilt, made_for as made_any, position_in, readers_in}
-use Rattle.any_log.proofs.AnyLemmas.{polled_made, polled_readers, rejoined_made as any_made, rejoined_readers as any_readers}
+use Rattle.log_traffic.specs.Held.{Made}
+use Rattle.log_traffic.specs.Whole.{AnyWhole, whole, rebuilt, made_for as made_any, position_in, readers_in}
+use Rattle.log_traffic.proofs.AnyLemmas.{polled_made, polled_readers, rejoined_made as any_made, rejoined_readers as any_readers}
 use Rattle.driver_core.specs.Change.{Change}
-use Rattle.driver_core.specs.declared.event.Inputs.{Inputs}
-use Rattle.driver_core.specs.declared.log_request.LogRequest.{LogRequest}
-use Rattle.driver_core.specs.declared.peer.Peer.{Peer}
-use Rattle.driver_core.specs.declared.settings.Settings.{Settings}
+use Rattle.driver_core.specs.declared.state.event.Inputs.{Inputs}
+use Rattle.driver_core.specs.declared.asked.log_request.LogRequest.{LogRequest}
+use Rattle.driver_core.specs.declared.state.peer.Peer.{Peer}
+use Rattle.driver_core.specs.declared.state.settings.Settings.{Settings}
 use Rattle.driver_core.specs.Conduct.{conduct}
 use Rattle.driver_core.specs.LogRequests.{offering_of, receiving_of}
 use Rattle.driver_core.specs.Pairs.{pairs_of}
@@ -21,27 +21,26 @@ use Rattle.driver_core.specs.Renewal.{source_at}
 use Rattle.driver_core.specs.Soundness.{AreSettings, IsSound, MovesLogs, Opens, log_of}
 use Rattle.driver_core.specs.State.{State, opened}
 use Rattle.driver_core.proofs.SoundnessLemmas.{moves_logs, registries_sound}
-use Rattle.driver_steps.specs.Sending.{send_move}
-use Rattle.driver_steps.specs.Receiving.{beat_move, receive_move, unheard}
-use Rattle.any_log.proofs.StillLemmas.{still_made, still_readers}
+use Rattle.log_steps.specs.Sending.{send_move}
+use Rattle.log_steps.specs.Receiving.{beat_move, receive_move, unheard}
+use Rattle.log_traffic.proofs.StillLemmas.{still_made, still_readers}
 use Rattle.driver_steps.proofs.QuietLemmas.{IsQuiet, report_cases, send_quiet}
 use Rattle.driver_steps.proofs.PacketLemmas.{beaten_made, beaten_readers, packet_cases, received_made, received_readers}
 use Rattle.frame_codec.specs.declared.header.TermPlace.{TermPlace}
 use Rattle.frame_codec.specs.Datagram.{packet_of}
 use Rattle.frame_codec.specs.Frame.{Sent}
-use Rattle.driver_core.specs.declared.event.Event.{Event}
-use Rattle.driver_core.specs.declared.event.Event.TheVariants.{Setup as SetUp}
-use Rattle.driver_steps.specs.declared.answer.Answer.{Answer}
-use Rattle.driver_steps.specs.declared.answer.Answer.TheVariants.{Offered as OfferedAs, Gone as IsGone}
-use Rattle.driver_steps.specs.declared.answer.Offered.TheVariants.{Closed}
+use Rattle.driver_core.specs.declared.state.event.Event.{Event}
+use Rattle.driver_core.specs.declared.state.event.Event.TheVariants.{Setup as SetUp}
+use Rattle.log_steps.specs.declared.answer.Answer.{Answer}
+use Rattle.log_steps.specs.declared.answer.Answer.TheVariants.{Offered as OfferedAs, Gone as IsGone}
+use Rattle.log_steps.specs.declared.answer.Offered.TheVariants.{Closed}
 use Rattle.driver_steps.specs.declared.step.Step.{Step}
 use Rattle.driver_steps.specs.declared.step.Step.TheVariants.{Conductor, Packet, Offer, Poll, Image, List as Lists, Send, Value}
-use Rattle.driver_steps.specs.Ends.{RunEnd, opening_end, inputs_of, begun, opened_for, stays_open, rejoined_log, logs_after, log_at, with_log, moved_on, on_log, on_offered_by, conducted}
-use Rattle.driver_steps.specs.Seen.{moved_seen}
+use Rattle.driver_steps.specs.Ends.{begun, conducted, inputs_of, log_at, logs_after, moved_by, moved_on, on_log, on_offered, opened_for, opening_end, rejoined_log, RunEnd, stays_open, with_log}
 use Rattle.driver_core.specs.Readers.{readers_of}
-use Rattle.driver_steps.specs.Held.{is_closed}
+use Rattle.driver_steps.specs.OpenLogs.{is_closed}
 use Rattle.driver_steps.specs.Laws.{AtEachEnd, made_for, made_as, LogsFollow, LogsFollowTheRegistry}
-use Rattle.driver_steps.specs.Moves.{WholeLog, Move, taken, offer_to, offer_under, offer_move, given, poll_under, poll_move}
+use Rattle.log_steps.specs.Moves.{WholeLog, Move, taken, offer_to, offer_under, offer_move, given, poll_under, poll_move}
 use Rattle.driver_steps.proofs.EndLemmas.{run_keeps}
 use Rattle.driver_steps.proofs.LiveLemmas.{found_log, all_with}
 use Rattle.driver_steps.proofs.MatchLemmas.{begins_made, kept_mapped, made_as_log, opened_found}
@@ -50,7 +49,7 @@ use Rattle.policy_core.specs.declared.verdict.Verdict.{Verdict}
 use Rattle.policy_core.specs.RuleList.{Rules}
 use Rattle.stream_registry.specs.declared.lingering.LogPlace.{LogPlace}
 use Rattle.stream_registry.specs.declared.pairs.Pair.{Pair}
-use Rattle.stream_registry.specs.declared.row.Source.{Source}
+use Rattle.stream_registry.specs.declared.row.LogRow.{LogRow}
 use Rattle.term_log.specs.Log.{greatest_message}
 use Rattle.term_log.specs.Whole.{Whole, is_connected, offered}
 
@@ -65,21 +64,21 @@ IsRead pairs log = readers_in log.whole ≡ readers_of pairs log.source
 
 -- ---- the log that an event opens
 
-begun_made : (s : State) (found : Option Source) (log : Source) → option_map log_of found ≡ Some log →
+begun_made : (s : State) (found : Option LogRow) (log : LogRow) → option_map log_of found ≡ Some log →
     map made_for (begun s found) ≡ made_as s.settings log ∷ []
 begun_made s None log is = absurd (cc)
 begun_made s (Some found) log is =
     ap (λ (made : Made). (found.number, made) ∷ [])
     (begins_made s.settings s.moment found found.origin ∙ sym (made_as_log s.settings found))
-    ∙ ap (λ (o : Option Source). made_as s.settings (unwrap_or o log) ∷ []) is
+    ∙ ap (λ (o : Option LogRow). made_as s.settings (unwrap_or o log) ∷ []) is
 
 opened_made : (s : State) (change : Change) (opens : Option LogPlace) → (moves : MovesLogs s change) →
     Opens s opens moves.opened →
     map made_for (opened_for change.after opens) ≡ map (made_as change.after.settings) moves.opened
 opened_made s change None moves is = sym (ap (map (made_as change.after.settings)) is)
 opened_made s change (Some place) moves is =
-    let log : Source = is.0 in
-    let logs : List Source = change.after.streams.sources in
+    let log : LogRow = is.0 in
+    let logs : List LogRow = change.after.streams.sources in
     let found : option_map log_of (source_at logs place.source) ≡ Some log =
     subst (λ (p : LogPlace). option_map log_of (source_at logs p.source) ≡ Some log) is.2
     (opened_found s change log moves is.1) in
@@ -99,7 +98,7 @@ rejoined_made pairs (log ∷ logs) =
     (any_made (readers_of pairs log.source) log.whole) (rejoined_made pairs logs)
 
 -- whether it lingers or not
-made_as_logs : (settings : Settings) (logs : List Source) →
+made_as_logs : (settings : Settings) (logs : List LogRow) →
     map (made_as settings) (map log_of logs) ≡ map (made_as settings) logs
 made_as_logs settings [] = refl
 made_as_logs settings (log ∷ logs) =
@@ -113,7 +112,7 @@ unfolding logs_after
 made_after s change logs moves made =
     let settings : Settings = change.after.settings in
     let closes : List LogPlace = change.outcome.closes in
-    let before : List Source = map log_of s.streams.sources in
+    let before : List LogRow = map log_of s.streams.sources in
     let begins : List WholeLog = opened_for change.after change.outcome.opens in
     let old : map made_for logs ≡ map (made_as settings) before =
     made
@@ -126,13 +125,13 @@ made_after s change logs moves made =
     ∙ sym (map-append (made_as settings) before moves.opened) in
     let left : filter (is_left closes) (before ++ moves.opened) ≡ map log_of change.after.streams.sources =
     filter-append (is_left closes) before moves.opened
-    ∙ ap (λ (logs' : List Source). filter (is_left closes) before ++ logs') moves.stays
+    ∙ ap (λ (logs' : List LogRow). filter (is_left closes) before ++ logs') moves.stays
     ∙ sym moves.logs in
     rejoined_made (pairs_of change.after) (filter (stays_open closes) (logs ++ begins))
     ∙ kept_mapped (stays closes) made_for (logs ++ begins)
     ∙ ap (λ (made' : List (ℕ × Made)). filter (stays closes) made') all
     ∙ sym (kept_mapped (stays closes) (made_as settings) (before ++ moves.opened))
-    ∙ ap (λ (logs' : List Source). map (made_as settings) logs') left
+    ∙ ap (λ (logs' : List LogRow). map (made_as settings) logs') left
     ∙ made_as_logs settings change.after.streams.sources
 
 -- ---- who reads the logs, after an event
@@ -251,7 +250,7 @@ move_follows e source move absent (Some log) found alike follows =
     }
 
 offer_follows : (s : State) (e : RunEnd) (now client registration : ℕ) (message : List ℕ) (o : Option LogRequest) → Follows e →
-    Follows (on_offered_by s e now client registration message o).after
+    Follows (on_offered s e now client registration message o).after
 unfolding on_log offer_move
 offer_follows s e now client registration message None follows = follows
 offer_follows s e now client registration message (Some request) follows =
@@ -301,7 +300,7 @@ taken_follows e event follows =
     event_follows e.registry (conduct e.registry event inputs) e.logs (moves_logs e.registry event inputs follows.sound)
     follows.logs
 
-step_follows : (s : State) (e : RunEnd) (step : Step) → Follows e → Follows (moved_seen s e step).after
+step_follows : (s : State) (e : RunEnd) (step : Step) → Follows e → Follows (moved_by s e step).after
 step_follows s e (Conductor event) follows = taken_follows e event follows
 step_follows s e (Packet now local from bytes) follows =
     packet_cases (λ what. Follows what.after) s e now local from (record {

@@ -4,7 +4,7 @@ use Rattle.std.specs.List.{All}
 use Rattle.std.proofs.lemmas.Bool.{eqb-true}
 use Rattle.std.proofs.lemmas.List.Elements.{All-head, All-tail}
 use Rattle.driver_steps.specs.Ends.{log_at, with_log}
-use Rattle.driver_steps.specs.Moves.{WholeLog}
+use Rattle.log_steps.specs.Moves.{WholeLog}
 
 found_source_by : (source : ℕ) (first log : WholeLog) (logs : List WholeLog) (b : Bool) → (first.source == source) ≡ b →
     (log_at logs source ≡ Some log → log.source ≡ source) → cond b (Some first) (log_at logs source) ≡ Some log →

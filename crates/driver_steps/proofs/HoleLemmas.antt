@@ -4,8 +4,8 @@ use Rattle.std.specs.List.{list_any, range_with_len}
 use Rattle.std.proofs.lemmas.List.{ext_get_or}
 use Rattle.std.proofs.lemmas.List.FromFn.{get_or-map-range_with_len, length-map-range_with_len}
 use Rattle.driver_core.specs.State.{State}
-use Rattle.driver_steps.specs.Held.{HeldLogs, plots_of}
-use Rattle.driver_steps.specs.Plots.{AreHoused, Plot, is_taken, taken_pages}
+use Rattle.driver_steps.specs.OpenLogs.{HeldLogs, plots_of}
+use Rattle.log_steps.specs.Plots.{AreHoused, Plot, is_taken, taken_pages}
 use Rattle.driver_steps.specs.Standing.{Match, pages_of_logs}
 use Rattle.driver_steps.proofs.VacancyLemmas.{taken_held}
 use Rattle.log_arena.specs.Pages.{Region}

@@ -9,13 +9,9 @@ use Rattle.std.proofs.lemmas.List.Elements.{All-push}
 use Rattle.std.proofs.lemmas.List.Edits.{get_or-remove_below, get_or-remove_above, length-remove}
 use Rattle.std.proofs.lemmas.List.Folds.{list_any-append, list_any_none, list_any_at}
 use Rattle.std.proofs.lemmas.List.Quantifiers.{all_pairs_push, all_pairs_remove}
-use Rattle.any_log.specs.declared.any_log.AnyLog.{AnyLog}
-use Rattle.any_log.specs.Held.{Lies, rejoined_held as rejoined_any}
-use Rattle.any_log.proofs.AnyLemmas.{rejoined_lies}
-use Rattle.driver_steps.proofs.MoveLemmas.{held_lies}
-use Rattle.driver_steps.specs.Recovery.{Recovering}
-use Rattle.driver_steps.specs.Held.{HeldLog, LiesAsBefore, plot_of, plots_of}
-use Rattle.driver_steps.specs.Plots.{Plot, has_page, is_taken, IsVacant, IsLeastVacant, LiesIn, ShareNoPage, AreHoused}
+use Rattle.log_steps.specs.Held.{HeldLog, LiesAsBefore, plot_of}
+use Rattle.driver_steps.specs.OpenLogs.{plots_of}
+use Rattle.log_steps.specs.Plots.{Plot, has_page, is_taken, IsVacant, IsLeastVacant, LiesIn, ShareNoPage, AreHoused}
 use Rattle.log_arena.specs.Homes.{Home}
 use Rattle.log_arena.specs.Lease.{IsOf, lease_home, lease_place, lease_len}
 use Rattle.log_arena.specs.declared.lease.Lease.{Lease}
@@ -156,12 +152,6 @@ pub housed_set : (region : Region) (logs : List HeldLog) (at : ℕ) (log : HeldL
     → AreHoused region (plots_of (slice_set logs at log))
 housed_set region logs at log alike housed =
     subst (AreHoused region) (sym (map-set_same plot_of logs at log log (alike log).plot_is)) housed
-
--- others read it now
-pub readers_lie : (source : ℕ) (kept : Recovering) (subscriptions : List ℕ) (old new : AnyLog) → new ≡ rejoined_any subscriptions old
-    → LiesAsBefore (record { source = source; log = old; recovery = kept }) (record { source = source; log = new; recovery = kept })
-readers_lie source kept subscriptions old new is =
-    held_lies source kept kept old new (subst (λ (l : AnyLog). Lies old l) (sym is) (rejoined_lies subscriptions old))
 
 -- ---- a log closes
 

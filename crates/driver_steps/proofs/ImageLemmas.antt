@@ -5,25 +5,26 @@ use Rattle.std.specs.Prelude.{IfSome}
 use Rattle.std.proofs.lemmas.Bool.{and_parts, eqb-true}
 use Rattle.std.proofs.lemmas.Bool.Decides.{Decides-int_eq}
 use Rattle.std.proofs.lemmas.List.Elements.{All-head, All-map, All-tail}
-use Rattle.any_log.specs.Held.{AreFor, Made, for_publication, for_stream, made_held}
 use Rattle.channel_uri.specs.declared.address.Address.{Address}
 use Rattle.channel_uri.specs.Address.{is_same}
 use Rattle.channel_uri.specs.Channel.{Shape, endpoint_shape}
-use Rattle.driver_core.specs.declared.image_request.Astray.{Astray}
-use Rattle.driver_core.specs.declared.image_request.Astray.TheVariants.{Stranger}
+use Rattle.driver_core.specs.declared.asked.image_request.Astray.{Astray}
+use Rattle.driver_core.specs.declared.asked.image_request.Astray.TheVariants.{Stranger}
 use Rattle.driver_core.specs.ImageRequests.{image_for, received_by, sent_to}
-use Rattle.driver_core.specs.declared.settings.Settings.{Settings}
+use Rattle.driver_core.specs.declared.state.settings.Settings.{Settings}
 use Rattle.driver_core.specs.State.{State}
-use Rattle.driver_steps.specs.Held.{AreForFirst, HeldLog, HeldLogs, held_at}
-use Rattle.driver_steps.specs.Idents.{made_by, made_of}
-use Rattle.driver_steps.specs.Standing.{LogRow, Match, row_for, row_held}
+use Rattle.driver_steps.specs.OpenLogs.{AreForFirst, HeldLogs, held_at}
+use Rattle.log_steps.specs.Held.{HeldLog}
+use Rattle.log_steps.specs.Idents.{made_by, made_of}
+use Rattle.driver_steps.specs.Standing.{LogPlot, Match, row_for, row_held}
 use Rattle.driver_steps.proofs.SourceLemmas.{Found, found_only}
 use Rattle.frame_codec.specs.Frame.{Sent}
 use Rattle.frame_codec.specs.Sound.{AreOfOneTerm, AreTold}
-use Rattle.image_receiver.proofs.ReceivingLemmas.{frames_are}
+use Rattle.log_traffic.specs.Held.{AreFor, Made, for_publication, for_stream, made_held}
+use Rattle.log_traffic.proofs.ReceivingLemmas.{frames_are}
 use Rattle.stream_registry.specs.declared.row.Origin.{Origin}
 use Rattle.stream_registry.specs.declared.row.Origin.TheVariants.{Published, Remote}
-use Rattle.stream_registry.specs.declared.row.Source.{Source}
+use Rattle.stream_registry.specs.declared.row.LogRow.{LogRow}
 use Rattle.stream_registry.specs.Images.{image_at, is_image_at}
 use Rattle.stream_registry.specs.Origins.{address_of}
 
@@ -32,14 +33,14 @@ abbrev pub IsOfStream : ℤ → ℤ → Made → Type 0
 IsOfStream session stream (for_publication ident) = Unit {0}
 IsOfStream session stream (for_stream ident) = (ident.session_id ≡ session) × (ident.stream_id ≡ stream)
 
-made_of_stream : (settings : Settings) (session stream : ℤ) (log : Source) (origin : Origin) → log.session ≡ session →
+made_of_stream : (settings : Settings) (session stream : ℤ) (log : LogRow) (origin : Origin) → log.session ≡ session →
     log.stream ≡ stream → IsOfStream session stream (made_by settings log origin)
 made_of_stream settings session stream log (Published exclusive since) same_session same_stream = tt
 made_of_stream settings session stream log (Remote address initial_term join) same_session same_stream =
     (same_session, same_stream)
 
 -- an image that was found is of that stream
-found_of_stream : (settings : Settings) (channel : Shape) (session stream : ℤ) (log : Source) →
+found_of_stream : (settings : Settings) (channel : Shape) (session stream : ℤ) (log : LogRow) →
     is_image_at channel session stream log ≡ true → IsOfStream session stream (made_of settings log)
 unfolding is_image_at
 found_of_stream settings channel session stream log is =
@@ -51,7 +52,7 @@ found_of_stream settings channel session stream log is =
 
 -- ---- its number
 
-number_sent : (from : Address) (image : Source) (publisher : Option Address) (source : ℕ) →
+number_sent : (from : Address) (image : LogRow) (publisher : Option Address) (source : ℕ) →
     sent_to from image publisher ≡ Ok source → image.number ≡ source
 number_sent from image None source is = absurd (cc is)
 number_sent from image (Some publisher) source is = number_by (is_same publisher from) is
@@ -63,7 +64,7 @@ number_sent from image (Some publisher) source is = number_by (is_same publisher
 -- ---- the log that is held
 
 -- a row of that number is of the stream
-abbrev IsRowOf : ℤ → ℤ → ℕ → LogRow → Type 0
+abbrev IsRowOf : ℤ → ℤ → ℕ → LogPlot → Type 0
 IsRowOf session stream source row = row.source ≡ source → IsOfStream session stream row.made
 
 row_step : (session stream : ℤ) (source : ℕ) (b : Bool) (first : HeldLog) (found : Option HeldLog) →
@@ -83,12 +84,12 @@ rows_of_stream session stream source (first ∷ logs) all =
     (rows_of_stream session stream source logs
     (All-tail (IsRowOf session stream source) (row_held first) (map row_held logs) all))
 
-of_stream : (s : State) (held : HeldLogs) (channel : Shape) (session stream : ℤ) (image : Source) → Match s held →
+of_stream : (s : State) (held : HeldLogs) (channel : Shape) (session stream : ℤ) (image : LogRow) → Match s held →
     image_at s.streams channel session stream ≡ Some image →
     IfSome (held_at held.logs image.number) (λ one. IsOfStream session stream (made_held one.log))
 of_stream s held channel session stream image match is =
-    let Q : LogRow → Type 0 = IsRowOf session stream image.number in
-    let R : Source → Type 0 = λ log. IsOfStream session stream (made_of s.settings log) in
+    let Q : LogPlot → Type 0 = IsRowOf session stream image.number in
+    let R : LogRow → Type 0 = λ log. IsOfStream session stream (made_of s.settings log) in
     let found : Found R 0 s.last_number s.streams.sources image =
     found_only R (is_image_at channel session stream) 0 s.last_number s.streams.sources image
     (found_of_stream s.settings channel session stream) match.sound.numbered is in
@@ -112,7 +113,7 @@ if_frames_for None frame later of told one = tt
 if_frames_for (Some held) frame later of told one = frames_for (made_held held.log) frame later of told one
 
 first_for : (s : State) (held : HeldLogs) (from : Address) (channel : Shape) (frame : Sent) (later : List Sent) (source : ℕ)
-    (found : Option Source) → Match s held →
+    (found : Option LogRow) → Match s held →
     image_at s.streams channel frame.header.place.session_id frame.header.place.stream_id ≡ found →
     received_by from found ≡ Ok source → AreTold (frame ∷ later) → AreOfOneTerm (frame ∷ later) →
     AreForFirst held.logs source (frame ∷ later)

@@ -3,34 +3,32 @@ use Rattle.std.proofs.Common.{◌≡◌, ℕ, Bool, true, cond, not, nat_lt, Lis
 use Rattle.std.specs.List.{All}
 use Rattle.std.proofs.lemmas.Bool.{cond_both}
 use Rattle.std.proofs.lemmas.List.Elements.{All-nil}
-use Rattle.any_log.specs.Whole.{AnyWhole, whole, rebuilt, position_in}
 use Rattle.channel_uri.specs.declared.address.Address.{Address}
-use Rattle.driver_core.specs.declared.event.Event.TheVariants.{Setup as SetUp}
-use Rattle.driver_core.specs.declared.image_request.Astray.{Astray}
-use Rattle.driver_core.specs.declared.log_request.LogRequest.{LogRequest}
-use Rattle.driver_core.specs.declared.peer.Peer.{Peer}
-use Rattle.driver_core.specs.declared.publication_request.JoinRequest.{JoinRequest}
-use Rattle.driver_core.specs.declared.settings.Settings.{Settings}
+use Rattle.driver_core.specs.declared.state.event.Event.TheVariants.{Setup as SetUp}
+use Rattle.driver_core.specs.declared.asked.image_request.Astray.{Astray}
+use Rattle.driver_core.specs.declared.asked.log_request.LogRequest.{LogRequest}
+use Rattle.driver_core.specs.declared.state.peer.Peer.{Peer}
+use Rattle.driver_core.specs.declared.asked.publication_request.JoinRequest.{JoinRequest}
+use Rattle.driver_core.specs.declared.state.settings.Settings.{Settings}
 use Rattle.driver_core.specs.LogRequests.{offering_of, receiving_of}
 use Rattle.driver_core.specs.PublicationRequests.{join_decision, joined_by, joining_of, publication_at, publisher_of, resending_of}
 use Rattle.driver_core.specs.SendRequests.{sending_of}
 use Rattle.driver_core.specs.State.{State}
 use Rattle.driver_core.proofs.VerdictLemmas.{by_policy}
-use Rattle.driver_steps.specs.declared.answer.Answer.{Answer}
-use Rattle.driver_steps.specs.declared.answer.Answer.TheVariants.{Dropped, Gone as IsGone, Offered as OfferedAs}
-use Rattle.driver_steps.specs.declared.answer.Offered.TheVariants.{Closed}
-use Rattle.driver_steps.specs.declared.cause.Cause.TheVariants.{Denied, Full as IsFull}
+use Rattle.log_steps.specs.declared.answer.Answer.{Answer}
+use Rattle.log_steps.specs.declared.answer.Answer.TheVariants.{Dropped, Gone as IsGone, Offered as OfferedAs}
+use Rattle.log_steps.specs.declared.answer.Offered.TheVariants.{Closed}
+use Rattle.log_steps.specs.declared.cause.Cause.TheVariants.{Denied, Full as IsFull}
 use Rattle.driver_steps.specs.declared.step.Step.{Step}
 use Rattle.driver_steps.specs.declared.step.Step.TheVariants.{Conductor, Packet, Offer as Offers, Poll as Polls, Image, List as Lists, Send, Value}
-use Rattle.driver_steps.specs.Ends.{RunEnd, log_at, on_asked, on_image, on_offered_by, on_packet, on_report_by, on_told, opening_end}
-use Rattle.driver_steps.specs.Hearing.{heard_move, join_move, learn_move, nak_move, status_move, with_learnt}
+use Rattle.driver_steps.specs.Ends.{image_by, log_at, moved_by, on_asked, on_image, on_offered, on_packet, on_report, on_told, opening_end, RunEnd}
+use Rattle.log_steps.specs.Hearing.{heard_move, join_move, learn_move, nak_move, status_move, with_learnt}
 use Rattle.driver_steps.specs.JoinLaws.{AddressesAreLearntExactly, JoinIsDecided, JoinsAreDecided, LearnOrderly, join_question, moved_by_log}
-use Rattle.driver_steps.specs.Moves.{Move, WholeLog, answered, offer_move, offer_to, offer_under, poll_move, poll_under}
-use Rattle.driver_steps.specs.Receiving.{beat_move, receive_move, unheard}
-use Rattle.driver_steps.specs.Reporting.{report_move}
+use Rattle.log_steps.specs.Moves.{Move, WholeLog, answered, offer_move, offer_to, offer_under, poll_move, poll_under}
+use Rattle.log_steps.specs.Receiving.{beat_move, receive_move, unheard}
+use Rattle.log_steps.specs.Reporting.{report_move}
 use Rattle.driver_steps.specs.Runs.{Reading, end_of}
-use Rattle.driver_steps.specs.Seen.{image_seen, moved_seen, packet_seen}
-use Rattle.driver_steps.specs.Sending.{send_by, send_move}
+use Rattle.log_steps.specs.Sending.{send_by, send_move}
 use Rattle.driver_steps.proofs.DecisionLemmas.{left_by, log_moves, stays_left}
 use Rattle.driver_steps.proofs.EndLemmas.{run_keeps}
 use Rattle.driver_steps.proofs.FoundLemmas.{found_source}
@@ -46,10 +44,11 @@ use Rattle.learnt_addresses.specs.declared.learnt_address.LearntAddress.{LearntA
 use Rattle.learnt_addresses.specs.Laws.{AreOrderly}
 use Rattle.learnt_addresses.specs.LearntAddresses.{forgotten, learning, learnt}
 use Rattle.learnt_addresses.proofs.OrderLemmas.{stays_orderly}
+use Rattle.log_traffic.specs.Whole.{AnyWhole, whole, rebuilt, position_in}
 use Rattle.policy_core.specs.declared.decision.Decision.{Decision}
 use Rattle.policy_core.specs.declared.verdict.Verdict.{Verdict}
 use Rattle.policy_core.specs.RuleList.{Rules}
-use Rattle.stream_registry.specs.declared.row.Source.{Source}
+use Rattle.stream_registry.specs.declared.row.LogRow.{LogRow}
 use Rattle.stream_registry.specs.Places.{is_dynamic}
 use Rattle.term_log.specs.Log.{greatest_message}
 use Rattle.term_log.specs.Whole.{is_connected}
@@ -57,13 +56,13 @@ use Rattle.term_log.specs.Whole.{is_connected}
 -- ---- by whose leave
 
 -- a publication that learns its destinations asks the policy
-joins_by : (s : State) (from : Address) (publication : Source) → is_dynamic publication.channel ≡ true →
+joins_by : (s : State) (from : Address) (publication : LogRow) → is_dynamic publication.channel ≡ true →
     joined_by s from (Some publication) ≡ Some (record { source = publication.number; decision = Some (join_decision s from publication) })
 joins_by s from publication dynamic =
     ap (λ (d : Option Decision). Some (record { source = publication.number; decision = d }))
     (ap (λ (b : Bool). cond b (Some (join_decision s from publication)) None) dynamic)
 
-joining_is : (s : State) (from : Address) (fields : StatusMessage) (publication : Source) →
+joining_is : (s : State) (from : Address) (fields : StatusMessage) (publication : LogRow) →
     publication_at s fields.session_id fields.stream_id ≡ Some publication → is_dynamic publication.channel ≡ true →
     joining_of s from fields.session_id fields.stream_id
     ≡ Some (record { source = publication.number; decision = Some (join_decision s from publication) })
@@ -79,14 +78,14 @@ heard_after now from message log Full other = absurd (other refl)
 heard_after now from message log Learnt other = refl
 heard_after now from message log Renewed other = refl
 
-pub join_decided : (e : RunEnd) (now : ℕ) (local from : Address) (fields : StatusMessage) (publication : Source) (log : WholeLog) →
+pub join_decided : (e : RunEnd) (now : ℕ) (local from : Address) (fields : StatusMessage) (publication : LogRow) (log : WholeLog) →
     publication_at e.registry fields.session_id fields.stream_id ≡ Some publication → is_dynamic publication.channel ≡ true →
     log_at e.logs publication.number ≡ Some log →
-    JoinIsDecided e now from fields publication log (on_packet e now local from (Ok (status fields)))
+    JoinIsDecided e now from fields publication log (on_packet e.registry e now local from (Ok (status fields)))
 join_decided e now local from fields publication log found dynamic live =
     let decision : Decision = join_decision e.registry from publication in
     let move : Move = join_move now from decision fields log in
-    let goes : on_packet e now local from (Ok (status fields)) ≡ left_by e publication.number move =
+    let goes : on_packet e.registry e now local from (Ok (status fields)) ≡ left_by e publication.number move =
     ap (on_told e now from fields) (joining_is e.registry from fields publication found dynamic)
     ∙ log_moves e publication.number (status_move now from (Some decision) fields) unheard log live in
     let number : publication.number ≡ log.source = sym (found_source publication.number log e.logs live) in
@@ -159,13 +158,13 @@ image_orderly e move (Ok source) keeps orderly =
     log_keeps OrderlyLog e source move unheard (λ log found there. keeps log there.holds) orderly
 
 packet_orderly : (s : State) (e : RunEnd) (now : ℕ) (local from : Address) (read : Result Content BadPacket) → All OrderlyLog e.logs →
-    All OrderlyLog (packet_seen s e now local from read).after.logs
+    All OrderlyLog (on_packet s e now local from read).after.logs
 packet_orderly s e now local from (Err fault) orderly = orderly
 packet_orderly s e now local from (Ok (frames [])) orderly = orderly
 packet_orderly s e now local from (Ok (frames (frame ∷ later))) orderly =
-    image_orderly e (receive_move now (frame ∷ later)) (image_seen s e local from frame.header.place) (λ log kept. kept) orderly
+    image_orderly e (receive_move now (frame ∷ later)) (image_by s e local from frame.header.place) (λ log kept. kept) orderly
 packet_orderly s e now local from (Ok (beat header)) orderly =
-    image_orderly e (beat_move now header.place) (image_seen s e local from header.place) (λ log kept. kept) orderly
+    image_orderly e (beat_move now header.place) (image_by s e local from header.place) (λ log kept. kept) orderly
 packet_orderly s e now local from (Ok (setup fields)) orderly = event_keeps OrderlyLog e (SetUp now local from fields) orderly_kept orderly
 packet_orderly s e now local from (Ok (nak fields)) orderly =
     asked_orderly e now from fields (resending_of s from fields.session_id fields.stream_id) orderly
@@ -189,7 +188,7 @@ offer_orderly s now message log (Some request) orderly =
     (λ _. offers_orderly now s.settings.connection_timeout request.decision.verdict message log log.whole orderly)
 
 offered_orderly : (s : State) (e : RunEnd) (now client registration : ℕ) (message : List ℕ) (o : Option LogRequest) → All OrderlyLog e.logs →
-    All OrderlyLog (on_offered_by s e now client registration message o).after.logs
+    All OrderlyLog (on_offered s e now client registration message o).after.logs
 unfolding offer_move
 offered_orderly s e now client registration message None orderly = orderly
 offered_orderly s e now client registration message (Some request) orderly =
@@ -208,12 +207,12 @@ send_orderly s now log None orderly = orderly
 send_orderly s now log (Some lingers) orderly = stays_orderly.standing now s.settings.destination_timeout log.recovery.learnt orderly
 
 report_orderly : (s : State) (e : RunEnd) (now source : ℕ) (to : Option Address) → All OrderlyLog e.logs →
-    All OrderlyLog (on_report_by s e now source to).after.logs
+    All OrderlyLog (on_report s e now source to).after.logs
 report_orderly s e now source None orderly = orderly
 report_orderly s e now source (Some to) orderly =
     log_keeps OrderlyLog e source (report_move now s.settings.receiver_id to) IsGone (λ log found there. there.holds) orderly
 
-moved_orderly : (s : State) (e : RunEnd) (step : Step) → All OrderlyLog e.logs → All OrderlyLog (moved_seen s e step).after.logs
+moved_orderly : (s : State) (e : RunEnd) (step : Step) → All OrderlyLog e.logs → All OrderlyLog (moved_by s e step).after.logs
 unfolding poll_move send_move
 moved_orderly s e (Conductor event) orderly = event_keeps OrderlyLog e event orderly_kept orderly
 moved_orderly s e (Packet now local from bytes) orderly = packet_orderly s e now local from (packet_of bytes) orderly

@@ -3,13 +3,12 @@ use Rattle.std.proofs.Common.{◌≡◌, ◌⊎◌, inl, inr, ℕ, ◌==◌, not
 use Rattle.std.specs.List.{All}
 use Rattle.std.proofs.lemmas.Bool.{cond_both, eqb-true, not-false}
 use Rattle.std.proofs.lemmas.List.Elements.{All-nil, All-cons, All-filter, All-map}
-use Rattle.any_log.specs.Whole.{AnyWhole, whole, rebuilt, position_in}
 use Rattle.channel_uri.specs.declared.address.Address.{Address}
 use Rattle.driver_core.specs.Change.{Change}
-use Rattle.driver_core.specs.declared.event.Event.{Event}
-use Rattle.driver_core.specs.declared.event.Event.TheVariants.{Setup as SetUp}
-use Rattle.driver_core.specs.declared.image_request.Astray.{Astray}
-use Rattle.driver_core.specs.declared.log_request.LogRequest.{LogRequest}
+use Rattle.driver_core.specs.declared.state.event.Event.{Event}
+use Rattle.driver_core.specs.declared.state.event.Event.TheVariants.{Setup as SetUp}
+use Rattle.driver_core.specs.declared.asked.image_request.Astray.{Astray}
+use Rattle.driver_core.specs.declared.asked.log_request.LogRequest.{LogRequest}
 use Rattle.driver_core.specs.Conduct.{conduct}
 use Rattle.driver_core.specs.LogRequests.{offering_of, receiving_of}
 use Rattle.driver_core.specs.Pairs.{pairs_of}
@@ -17,26 +16,24 @@ use Rattle.driver_core.specs.PublicationRequests.{join_decision, joined_as, join
 use Rattle.driver_core.specs.Renewal.{source_at}
 use Rattle.driver_core.specs.SendRequests.{sending_of}
 use Rattle.driver_core.specs.State.{State}
-use Rattle.driver_steps.specs.declared.answer.Answer.{Answer}
-use Rattle.driver_steps.specs.declared.answer.Answer.TheVariants.{Dropped, Gone as IsGone, Offered as OfferedAs}
-use Rattle.driver_steps.specs.declared.answer.Offered.TheVariants.{Closed}
-use Rattle.driver_steps.specs.declared.cause.Cause.TheVariants.{Denied}
+use Rattle.log_steps.specs.declared.answer.Answer.{Answer}
+use Rattle.log_steps.specs.declared.answer.Answer.TheVariants.{Dropped, Gone as IsGone, Offered as OfferedAs}
+use Rattle.log_steps.specs.declared.answer.Offered.TheVariants.{Closed}
+use Rattle.log_steps.specs.declared.cause.Cause.TheVariants.{Denied}
 use Rattle.driver_steps.specs.declared.step.Step.{Step}
 use Rattle.driver_steps.specs.declared.step.Step.TheVariants.{Conductor, Packet, Offer as Offers, Poll as Polls, Image, List as Lists, Send, Value}
-use Rattle.driver_steps.specs.Ends.{RunEnd, Moved, begun, conducted, inputs_of, log_at, logs_after, moved_on, on_asked, on_image, on_log, on_offered_by, on_report_by, on_told, opened_for, rejoined_log, stays_open, with_log}
-use Rattle.driver_steps.specs.Hearing.{learn_move, nak_move, status_move, with_learnt}
-use Rattle.driver_steps.specs.Held.{is_closed}
+use Rattle.driver_steps.specs.Ends.{begun, conducted, image_by, inputs_of, log_at, logs_after, Moved, moved_by, moved_on, on_asked, on_image, on_log, on_offered, on_packet, on_report, on_told, opened_for, rejoined_log, RunEnd, stays_open, with_log}
+use Rattle.log_steps.specs.Hearing.{learn_move, nak_move, status_move, with_learnt}
+use Rattle.driver_steps.specs.OpenLogs.{is_closed}
 use Rattle.driver_steps.specs.JoinLaws.{ChangesBy, ChangesByPacket, ChangesByStatus, LearntStays}
-use Rattle.driver_steps.specs.Moves.{Move, WholeLog, answered, offer_move, offer_to, offer_under, poll_move, poll_under}
-use Rattle.driver_steps.specs.Receiving.{beat_move, receive_move, unheard}
-use Rattle.driver_steps.specs.Reporting.{report_move}
+use Rattle.log_steps.specs.Moves.{Move, WholeLog, answered, offer_move, offer_to, offer_under, poll_move, poll_under}
+use Rattle.log_steps.specs.Receiving.{beat_move, receive_move, unheard}
+use Rattle.log_steps.specs.Reporting.{report_move}
 use Rattle.driver_steps.specs.Runs.{Reading, left_by, moved_to, read_by}
-use Rattle.driver_steps.specs.Seen.{image_seen, moved_seen, packet_seen}
-use Rattle.driver_steps.specs.Sending.{send_by, send_move}
+use Rattle.log_steps.specs.Sending.{send_by, send_move}
 use Rattle.driver_steps.proofs.EndLemmas.{after_both}
 use Rattle.driver_steps.proofs.FoundLemmas.{found_holds, found_source}
 use Rattle.driver_steps.proofs.QuietLemmas.{send_quiet, status_quiet}
-use Rattle.driver_steps.proofs.ReadLemmas.{holds_by}
 use Rattle.frame_codec.specs.declared.fault.BadPacket.{BadPacket}
 use Rattle.frame_codec.specs.declared.nak.Nak.{Nak}
 use Rattle.frame_codec.specs.declared.status_message.StatusMessage.{StatusMessage}
@@ -45,10 +42,11 @@ use Rattle.learnt_addresses.specs.declared.learning.Learning.{Learning}
 use Rattle.learnt_addresses.specs.declared.learning.Learning.TheVariants.{Full, Learnt, Renewed}
 use Rattle.learnt_addresses.specs.declared.learnt_address.LearntAddress.{LearntAddress}
 use Rattle.learnt_addresses.specs.LearntAddresses.{forgotten, learning, learnt, none}
+use Rattle.log_traffic.specs.Whole.{AnyWhole, whole, rebuilt, position_in}
 use Rattle.policy_core.specs.declared.verdict.Verdict.{Verdict}
 use Rattle.stream_registry.specs.declared.lingering.LogPlace.{LogPlace}
 use Rattle.stream_registry.specs.declared.pairs.Pair.{Pair}
-use Rattle.stream_registry.specs.declared.row.Source.{Source}
+use Rattle.stream_registry.specs.declared.row.LogRow.{LogRow}
 use Rattle.stream_registry.specs.Places.{is_dynamic}
 use Rattle.term_log.specs.Log.{greatest_message}
 use Rattle.term_log.specs.Whole.{is_connected}
@@ -138,7 +136,7 @@ none_left : (R : Changes) (o : Option WholeLog) → ((log : WholeLog) → o ≡ 
 none_left R None blank = tt
 none_left R (Some log) blank = blank log refl
 
-begun_blank : (s : State) (o : Option Source) → All IsBlank (begun s o)
+begun_blank : (s : State) (o : Option LogRow) → All IsBlank (begun s o)
 begun_blank s None = All-nil IsBlank
 begun_blank s (Some log) = All-cons IsBlank _ [] refl (All-nil IsBlank)
 
@@ -238,7 +236,7 @@ asked_leaves R same e now from fields (Some request) number =
     (λ log. record { source_is = refl; learnt_is = refl })
 
 report_leaves : (R : Changes) → AllowsNone R → (s : State) (e : RunEnd) (now source : ℕ) (to : Option Address) (number : ℕ) →
-    Leaves R e (on_report_by s e now source to) number
+    Leaves R e (on_report s e now source to) number
 report_leaves R same s e now source None number = left_itself R same (log_at e.logs number)
 report_leaves R same s e now source (Some to) number =
     unlearnt_leaves R same e source (report_move now s.settings.receiver_id to) IsGone number
@@ -262,7 +260,7 @@ offer_unlearnt s now message log (Some request) =
     (λ _. offers_unlearnt now s.settings.connection_timeout request.decision.verdict message log log.whole)
 
 offered_leaves : (R : Changes) → AllowsNone R → (s : State) (e : RunEnd) (now client registration : ℕ) (message : List ℕ) (o : Option LogRequest)
-    (number : ℕ) → Leaves R e (on_offered_by s e now client registration message o) number
+    (number : ℕ) → Leaves R e (on_offered s e now client registration message o) number
 unfolding offer_move
 offered_leaves R same s e now client registration message None number = left_itself R same (log_at e.logs number)
 offered_leaves R same s e now client registration message (Some request) number =
@@ -287,7 +285,7 @@ learns now from message log Learnt is = refl
 learns now from message log Renewed is = refl
 
 -- by whether the publication learns its destinations
-status_changes : (s : State) (now : ℕ) (from : Address) (fields : StatusMessage) (publication : Source) (log : WholeLog) (b : Bool) →
+status_changes : (s : State) (now : ℕ) (from : Address) (fields : StatusMessage) (publication : LogRow) (log : WholeLog) (b : Bool) →
     publication_at s fields.session_id fields.stream_id ≡ Some publication → is_dynamic publication.channel ≡ b → publication.number ≡ log.source →
     let after : WholeLog = (status_move now from (cond b (Some (join_decision s from publication)) None) fields log).after in
     (after.recovery.learnt ≡ log.recovery.learnt) ⊎ ChangesByStatus s now from fields log after
@@ -313,7 +311,7 @@ ByPacket s now from read log after = (after.recovery.learnt ≡ log.recovery.lea
 packet_allows : (s : State) (now : ℕ) (from : Address) (read : Result Content BadPacket) → AllowsNone (ByPacket s now from read)
 packet_allows s now from read log after same = inl same
 
-told_leaves : (s : State) (e : RunEnd) (now : ℕ) (from : Address) (fields : StatusMessage) (o : Option Source) (number : ℕ) →
+told_leaves : (s : State) (e : RunEnd) (now : ℕ) (from : Address) (fields : StatusMessage) (o : Option LogRow) (number : ℕ) →
     publication_at s fields.session_id fields.stream_id ≡ o →
     Leaves (ByPacket s now from (Ok (status fields))) e (on_told e now from fields (joined_by s from o)) number
 told_leaves s e now from fields None number found =
@@ -330,7 +328,7 @@ told_leaves s e now from fields (Some publication) number found =
 -- ---- a datagram
 
 packet_leaves : (s : State) (e : RunEnd) (now : ℕ) (local from : Address) (read : Result Content BadPacket) (number : ℕ) →
-    Leaves (ByPacket s now from read) e (packet_seen s e now local from read) number
+    Leaves (ByPacket s now from read) e (on_packet s e now local from read) number
 unfolding joining_of
 packet_leaves s e now local from (Err fault) number =
     left_itself (ByPacket s now from (Err fault)) (packet_allows s now from (Err fault)) (log_at e.logs number)
@@ -338,11 +336,11 @@ packet_leaves s e now local from (Ok (frames [])) number =
     left_itself (ByPacket s now from (Ok (frames []))) (packet_allows s now from (Ok (frames []))) (log_at e.logs number)
 packet_leaves s e now local from (Ok (frames (frame ∷ later))) number =
     image_leaves (ByPacket s now from (Ok (frames (frame ∷ later)))) (packet_allows s now from (Ok (frames (frame ∷ later)))) e
-    (receive_move now (frame ∷ later)) (image_seen s e local from frame.header.place) number
+    (receive_move now (frame ∷ later)) (image_by s e local from frame.header.place) number
     (λ log. record { source_is = refl; learnt_is = refl })
 packet_leaves s e now local from (Ok (beat header)) number =
     image_leaves (ByPacket s now from (Ok (beat header))) (packet_allows s now from (Ok (beat header))) e
-    (beat_move now header.place) (image_seen s e local from header.place) number
+    (beat_move now header.place) (image_by s e local from header.place) number
     (λ log. record { source_is = refl; learnt_is = refl })
 packet_leaves s e now local from (Ok (setup fields)) number =
     event_leaves (ByPacket s now from (Ok (setup fields))) (packet_allows s now from (Ok (setup fields))) e (SetUp now local from fields) number
@@ -365,7 +363,7 @@ send_changes : (s : State) (now source : ℕ) (log : WholeLog) (lingers : Option
 send_changes s now source log None is = inl refl
 send_changes s now source log (Some lingers) is = inr (is, refl)
 
-step_leaves : (s : State) (e : RunEnd) (step : Step) (number : ℕ) → Leaves (ByStep s step) e (moved_seen s e step) number
+step_leaves : (s : State) (e : RunEnd) (step : Step) (number : ℕ) → Leaves (ByStep s step) e (moved_by s e step) number
 unfolding poll_move send_move
 step_leaves s e (Conductor event) number = event_leaves (ByStep s (Conductor event)) (step_allows s (Conductor event)) e event number
 step_leaves s e (Packet now local from bytes) number = packet_leaves s e now local from (packet_of bytes) number
@@ -395,8 +393,7 @@ reading_leaves e reading answer number =
     let R : Changes = ByStep (read_by e reading.older) reading.step in
     after_both (λ (next : RunEnd). IsLeft R (log_at e.logs number) (log_at next.logs number)) e (moved_to e reading) answer
     (left_itself R (step_allows (read_by e reading.older) reading.step) (log_at e.logs number))
-    (holds_by (λ (what : Moved). Leaves R e what number) e reading.older reading.step
-    (step_leaves (read_by e reading.older) e reading.step number))
+    (step_leaves (read_by e reading.older) e reading.step number)
 
 both_left : (R : Changes) (o p : Option WholeLog) (after : WholeLog) (q : Option WholeLog) → o ≡ q → p ≡ Some after → IsLeft R o p →
     IsLeft R q (Some after)

@@ -1,14 +1,12 @@
 pub mod BringLemmas
 pub mod CachingLemmas
 pub mod CarryingLemmas
-pub mod DecidedLemmas
 pub mod DecisionLemmas
+pub mod EndDecisionLemmas
 pub mod EndLemmas
+pub mod FirstLemmas
 pub mod FollowLemmas
 pub mod FoundLemmas
-pub mod GateLemmas
-pub mod HearingLemmas
-pub mod HeldLemmas
 pub mod HoleLemmas
 pub mod HousedLemmas
 pub mod ImageLemmas
@@ -16,22 +14,21 @@ pub mod JoinLemmas
 pub mod LearntLemmas
 pub mod LiveLemmas
 pub mod MatchLemmas
-pub mod MoveLemmas
+pub mod NewestLemmas
+pub mod OpenLogLemmas
 pub mod OwnedLemmas
 pub mod PacketLemmas
 pub mod QuietLemmas
-pub mod ReadLemmas
-pub mod ReaderLemmas
 pub mod RegisteredLemmas
-mod RegisteringLemmas
+pub mod RegisteringLemmas
 pub mod ReportLemmas
 pub mod RequestLemmas
 pub mod ResendLemmas
 pub mod RunLemmas
-pub mod SendLemmas
-pub mod SeenLemmas
+pub mod SendAnswerLemmas
 pub mod SendLawLemmas
-mod SourceLemmas
+pub mod ServingLemmas
+pub mod SourceLemmas
 pub mod StandLemmas
 pub mod TakeLemmas
 pub mod VacancyLemmas

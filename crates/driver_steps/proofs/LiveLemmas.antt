@@ -7,41 +7,39 @@ use Rattle.std.specs.List.{All, Contains}
 use Rattle.std.specs.Prelude.{IfSome}
 use Rattle.std.proofs.lemmas.Bool.{cond_both, eqb-true, eq-eqb}
 use Rattle.std.proofs.lemmas.List.Elements.{All-nil, All-cons, All-head, All-tail, All-append, All-map, All-filter, All-weaker, Contains-append_left, Contains-append_right, Contains-push}
-use Rattle.any_log.specs.Whole.{AnyWhole, whole, rebuilt, beaten, polled as any_polled, position_in, received}
-use Rattle.any_log.proofs.AnyLemmas.{moved_there}
-use Rattle.any_log.proofs.StillLemmas.{IsStill}
+use Rattle.log_traffic.specs.Whole.{AnyWhole, whole, rebuilt, beaten, polled as any_polled, position_in, received}
+use Rattle.log_traffic.proofs.AnyLemmas.{moved_there}
+use Rattle.log_traffic.proofs.StillLemmas.{IsStill}
 use Rattle.driver_core.specs.Change.{Change}
-use Rattle.driver_core.specs.declared.log_request.LogRequest.{LogRequest}
-use Rattle.driver_core.specs.declared.peer.Peer.{Peer}
-use Rattle.driver_core.specs.declared.settings.Settings.{Settings}
+use Rattle.driver_core.specs.declared.asked.log_request.LogRequest.{LogRequest}
+use Rattle.driver_core.specs.declared.state.peer.Peer.{Peer}
+use Rattle.driver_core.specs.declared.state.settings.Settings.{Settings}
 use Rattle.driver_core.specs.Conduct.{conduct}
 use Rattle.driver_core.specs.LogRequests.{offering_of, receiving_of}
 use Rattle.driver_core.specs.PublicationRequests.{publisher_of}
 use Rattle.driver_core.specs.Pairs.{pairs_of}
 use Rattle.driver_core.specs.Renewal.{source_at}
 use Rattle.driver_core.specs.State.{State}
-use Rattle.driver_steps.specs.Sending.{send_move}
-use Rattle.driver_steps.specs.Receiving.{beat_move, receive_move, unheard}
+use Rattle.log_steps.specs.Sending.{send_move}
+use Rattle.log_steps.specs.Receiving.{beat_move, receive_move, unheard}
 use Rattle.driver_steps.proofs.PacketLemmas.{packet_cases}
 use Rattle.driver_steps.proofs.QuietLemmas.{IsQuiet, report_cases, send_quiet, still_holds}
 use Rattle.frame_codec.specs.declared.header.TermPlace.{TermPlace}
 use Rattle.frame_codec.specs.Datagram.{packet_of}
 use Rattle.frame_codec.specs.Frame.{Sent}
-use Rattle.driver_core.specs.declared.event.Event.{Event}
-use Rattle.driver_core.specs.declared.event.Event.TheVariants.{Setup as SetUp}
-use Rattle.driver_steps.specs.declared.answer.Answer.{Answer}
-use Rattle.driver_steps.specs.declared.answer.Answer.TheVariants.{NoMemory, Offered as OfferedAs, Polled, Gone as IsGone}
-use Rattle.driver_steps.specs.declared.answer.Offered.TheVariants.{At as PutAt, Closed}
+use Rattle.driver_core.specs.declared.state.event.Event.{Event}
+use Rattle.driver_core.specs.declared.state.event.Event.TheVariants.{Setup as SetUp}
+use Rattle.log_steps.specs.declared.answer.Answer.{Answer}
+use Rattle.log_steps.specs.declared.answer.Answer.TheVariants.{NoMemory, Offered as OfferedAs, Polled, Gone as IsGone}
+use Rattle.log_steps.specs.declared.answer.Offered.TheVariants.{At as PutAt, Closed}
 use Rattle.driver_steps.specs.declared.step.Step.{Step}
 use Rattle.driver_steps.specs.declared.step.Step.TheVariants.{Conductor, Packet, Offer as Offers, Poll as Polls, Image, List as Lists, Send, Value}
-use Rattle.driver_steps.specs.Ends.{RunEnd, opening_end, inputs_of, begun, opened_for, stays_open, rejoined_log, logs_after, log_at, with_log, Moved, moved_on, on_log, conducted, after_by, IsAnswerOf, on_offered_by}
+use Rattle.driver_steps.specs.Ends.{after_by, begun, conducted, inputs_of, IsAnswerOf, log_at, logs_after, Moved, moved_by, moved_on, on_log, on_offered, opened_for, opening_end, rejoined_log, RunEnd, stays_open, with_log}
 use Rattle.driver_steps.specs.Runs.{Reading, AreAnswers, IsAnswerTo, end_of, left_by, moved_to, read_by}
-use Rattle.driver_steps.specs.Seen.{moved_seen}
-use Rattle.driver_steps.proofs.ReadLemmas.{by_seen, holds_by}
-use Rattle.driver_steps.specs.Idents.{begins_of}
+use Rattle.log_steps.specs.Idents.{begins_of}
 use Rattle.driver_steps.specs.Laws.{frames_for, put_into, granted_by, granted_in, AreNext, AreNextWhole, AreNextIn, ComeFromLog, BytesComeFromTheLiveLog}
-use Rattle.driver_steps.specs.Recovery.{recovering}
-use Rattle.driver_steps.specs.Moves.{WholeLog, Move, offer_to, offer_under, offer_move, poll_under, poll_move}
+use Rattle.log_steps.specs.Recovery.{recovering}
+use Rattle.log_steps.specs.Moves.{WholeLog, Move, offer_to, offer_under, offer_move, poll_under, poll_move}
 use Rattle.frame_codec.specs.declared.flags.Flags.{Flags}
 use Rattle.image_log.specs.Polling.{Poll as ImagePoll, polled as image_polled, polled_frame, polled_from as image_polled_from, whole_from}
 use Rattle.image_log.specs.Rebuilt.{Rebuilt, settled}
@@ -49,7 +47,7 @@ use Rattle.policy_core.specs.declared.verdict.Verdict.{Verdict}
 use Rattle.policy_core.specs.RuleList.{Rules}
 use Rattle.stream_registry.specs.declared.lingering.LogPlace.{LogPlace}
 use Rattle.stream_registry.specs.declared.pairs.Pair.{Pair}
-use Rattle.stream_registry.specs.declared.row.Source.{Source}
+use Rattle.stream_registry.specs.declared.row.LogRow.{LogRow}
 use Rattle.term_log.specs.declared.ident.Ident.{Ident}
 use Rattle.term_log.specs.Frames.{Frame, fragment}
 use Rattle.log_pairs.specs.Pairs.{position_of}
@@ -67,11 +65,11 @@ use Rattle.driver_steps.proofs.OwnedLemmas.{behind_start, passed_behind, polled_
 -- what holds of each log that begins, and goes on to hold whoever reads it, is kept by events
 pub record IsKept (P : WholeLog → Type 0) : Type 0 where
   pub begins :
-      (settings : Settings) (now : ℕ) (log : Source) →
+      (settings : Settings) (now : ℕ) (log : LogRow) →
       P (record { source = log.number; whole = begins_of settings now log; recovery = recovering settings })
   pub rejoins : (pairs : List Pair) (log : WholeLog) → P log → P (rejoined_log pairs log)
 
-begun_keeps : (P : WholeLog → Type 0) (s : State) (o : Option Source) → IsKept P → All P (begun s o)
+begun_keeps : (P : WholeLog → Type 0) (s : State) (o : Option LogRow) → IsKept P → All P (begun s o)
 begun_keeps P s None kept = All-nil P
 begun_keeps P s (Some log) kept =
     let begins : WholeLog =
@@ -204,8 +202,8 @@ offer_found_owns granted more s e now client registration message request (Some 
 
 offer_owns : (granted more : ℕ → List Frame) (s : State) (e : RunEnd) (now client registration : ℕ) (message : List ℕ)
     (o : Option LogRequest) → offering_of s client registration ≡ o → IsMore granted more →
-    IsPutInto more e message o (on_offered_by s e now client registration message o).answer → All (Owns granted) e.logs →
-    All (Owns more) (on_offered_by s e now client registration message o).after.logs
+    IsPutInto more e message o (on_offered s e now client registration message o).answer → All (Owns granted) e.logs →
+    All (Owns more) (on_offered s e now client registration message o).after.logs
 unfolding on_log
 offer_owns granted more s e now client registration message None asked is puts owned =
     all_more granted more is e.logs owned
@@ -291,10 +289,10 @@ quiet_owns granted e source move absent quiet owned =
     owned
 
 moved_owns : (granted : ℕ → List Frame) (s : State) (e : RunEnd) (step : Step) → All (Owns granted) e.logs →
-    All (Owns (granted_with granted s e step (moved_seen s e step).answer)) (moved_seen s e step).after.logs
+    All (Owns (granted_with granted s e step (moved_by s e step).answer)) (moved_by s e step).after.logs
 moved_owns granted s e (Packet now local from bytes) owned =
     let step : Step = Packet now local from bytes in
-    still_owns granted s e step (moved_seen s e step).answer (moved_seen s e step).after.logs
+    still_owns granted s e step (moved_by s e step).answer (moved_by s e step).after.logs
     (packet_cases (λ what. All (Owns granted) what.after.logs) s e now local from (record {
       drops = λ cause. owned;
       receives = λ source sent. receive_owns granted e source now sent owned;
@@ -304,11 +302,11 @@ moved_owns granted s e (Packet now local from bytes) owned =
     }) (packet_of bytes))
 moved_owns granted s e (Conductor event) owned =
     let step : Step = Conductor event in
-    still_owns granted s e step (moved_seen s e step).answer (moved_seen s e step).after.logs
+    still_owns granted s e step (moved_by s e step).answer (moved_by s e step).after.logs
     (event_keeps (Owns granted) e event (owns_kept granted) owned)
 moved_owns granted s e (Offers now client registration message) owned =
     let step : Step = Offers now client registration message in
-    let answer : Answer = (moved_seen s e step).answer in
+    let answer : Answer = (moved_by s e step).answer in
     offer_owns granted (granted_with granted s e step answer) s e now client registration message
     (offering_of s client registration) refl (with_is_more granted s e step answer)
     (λ position is source frame has.
@@ -317,23 +315,23 @@ moved_owns granted s e (Offers now client registration message) owned =
     owned
 moved_owns granted s e (Polls now client subscription source limit) owned =
     let step : Step = Polls now client subscription source limit in
-    still_owns granted s e step (moved_seen s e step).answer (moved_seen s e step).after.logs
+    still_owns granted s e step (moved_by s e step).answer (moved_by s e step).after.logs
     (poll_owns granted s e client subscription source limit owned)
 moved_owns granted s e (Send now source) owned =
     let step : Step = Send now source in
-    still_owns granted s e step (moved_seen s e step).answer (moved_seen s e step).after.logs
+    still_owns granted s e step (moved_by s e step).answer (moved_by s e step).after.logs
     (quiet_owns granted e source (send_move s now) IsGone (send_quiet s now) owned)
 moved_owns granted s e (Image now source) owned =
     let step : Step = Image now source in
-    still_owns granted s e step (moved_seen s e step).answer (moved_seen s e step).after.logs
+    still_owns granted s e step (moved_by s e step).answer (moved_by s e step).after.logs
     (report_cases (λ what. All (Owns granted) what.after.logs) s e now source owned
     (λ move quiet. quiet_owns granted e source move IsGone quiet owned) (publisher_of s source))
 moved_owns granted s e (Lists now client) owned =
     let step : Step = Lists now client in
-    still_owns granted s e step (moved_seen s e step).answer e.logs owned
+    still_owns granted s e step (moved_by s e step).answer e.logs owned
 moved_owns granted s e (Value now client number) owned =
     let step : Step = Value now client number in
-    still_owns granted s e step (moved_seen s e step).answer e.logs owned
+    still_owns granted s e step (moved_by s e step).answer e.logs owned
 
 -- a step leaves and is answered what it comes to
 told_either : (P : Answer → RunEnd → Type 0) (what : Moved) (answer : Answer) → answer ≡ what.answer →
@@ -357,7 +355,7 @@ step_owns granted e reading answer is owned =
     let s : State = read_by e reading.older in
     step_either (λ told end. All (Owns (granted_with granted s e reading.step told)) end.logs) e (moved_to e reading) answer is
     (still_owns granted s e reading.step NoMemory e.logs owned)
-    (holds_by (Came granted s e reading.step) e reading.older reading.step (moved_owns granted s e reading.step owned))
+    (moved_owns granted s e reading.step owned)
 
 -- ---- runs
 
@@ -517,8 +515,6 @@ bytes_come settings policy peers readings answers older now client subscription 
     let first : RunEnd = opening_end settings policy peers in
     let last : RunEnd = end_of first readings answers in
     let s : State = read_by last older in
-    let told : Polled fragments ≡ (moved_seen s last (Polls now client subscription source limit)).answer =
-    is ∙ sym (ap (λ (what : Moved). what.answer) (by_seen last older (Polls now client subscription source limit))) in
     poll_comes (λ n. granted_in first n readings answers) s last client subscription source limit fragments
     (log_at last.logs source) refl
-    (run_owns (λ n. []) first readings answers are (opening_owns settings policy peers)) told
+    (run_owns (λ n. []) first readings answers are (opening_owns settings policy peers)) is

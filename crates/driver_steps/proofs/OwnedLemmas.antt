@@ -5,26 +5,26 @@ use Rattle.std.specs.Prelude.{IfSome}
 use Rattle.std.proofs.lemmas.Bool.{cond_both}
 use Rattle.std.proofs.lemmas.Bool.Decides.{nat_tests}
 use Rattle.std.proofs.lemmas.List.Elements.{All-weaker, Contains-append_cases}
-use Rattle.any_log.specs.Whole.{AnyWhole, whole, rebuilt, polled as any_polled, rejoined}
-use Rattle.driver_core.specs.declared.log_request.LogRequest.{LogRequest}
-use Rattle.driver_core.specs.declared.settings.Settings.{Settings}
+use Rattle.log_traffic.specs.Whole.{AnyWhole, whole, rebuilt, polled as any_polled, rejoined}
+use Rattle.driver_core.specs.declared.asked.log_request.LogRequest.{LogRequest}
+use Rattle.driver_core.specs.declared.state.settings.Settings.{Settings}
 use Rattle.driver_core.specs.State.{State}
 use Rattle.driver_core.proofs.ListLemmas.{contains_none, only_one}
-use Rattle.driver_steps.specs.declared.answer.Answer.{Answer}
-use Rattle.driver_steps.specs.declared.answer.Answer.TheVariants.{Offered as OfferedAs}
-use Rattle.driver_steps.specs.declared.answer.Offered.TheVariants.{At as PutAt}
-use Rattle.driver_steps.specs.Answers.{offered_as}
+use Rattle.log_steps.specs.declared.answer.Answer.{Answer}
+use Rattle.log_steps.specs.declared.answer.Answer.TheVariants.{Offered as OfferedAs}
+use Rattle.log_steps.specs.declared.answer.Offered.TheVariants.{At as PutAt}
+use Rattle.log_steps.specs.Answers.{offered_as}
 use Rattle.driver_steps.specs.Ends.{rejoined_log}
 use Rattle.driver_core.specs.Readers.{readers_of}
-use Rattle.driver_steps.specs.Idents.{begins_by}
+use Rattle.log_steps.specs.Idents.{begins_by}
 use Rattle.driver_steps.specs.Laws.{frames_for}
-use Rattle.driver_steps.specs.Moves.{WholeLog, Move, answered, taken, offer_to, offer_under, given, poll_under}
+use Rattle.log_steps.specs.Moves.{WholeLog, Move, answered, taken, offer_to, offer_under, given, poll_under}
 use Rattle.frame_codec.specs.declared.flags.Flags.{Flags}
 use Rattle.policy_core.specs.declared.verdict.Verdict.{Verdict}
 use Rattle.stream_registry.specs.declared.pairs.Pair.{Pair}
 use Rattle.stream_registry.specs.declared.row.Origin.{Origin}
 use Rattle.stream_registry.specs.declared.row.Origin.TheVariants.{Published, Remote}
-use Rattle.stream_registry.specs.declared.row.Source.{Source}
+use Rattle.stream_registry.specs.declared.row.LogRow.{LogRow}
 use Rattle.term_log.specs.declared.ident.Ident.{Ident}
 use Rattle.term_log.specs.declared.offer.Offer.{Offer}
 use Rattle.term_log.specs.declared.offer.Offer.TheVariants.{At, TooLong as IsTooLong, MaxPosition, BackPressured, AdminAction}
@@ -142,7 +142,7 @@ all_more granted more is logs owned = All-weaker (Owns granted) (Owns more) (own
 -- ---- one log
 
 -- a log begins without frames that were appended
-pub begins_owns : (granted : List Frame) (settings : Settings) (now : ℕ) (log : Source) (origin : Origin) →
+pub begins_owns : (granted : List Frame) (settings : Settings) (now : ℕ) (log : LogRow) (origin : Origin) →
     OwnsAny granted (begins_by settings now log origin)
 begins_owns granted settings now log (Published exclusive since) = record {
   read = tt;

@@ -1,22 +1,21 @@
 -- What a datagram comes to.
 use Rattle.std.proofs.Common.{◌≡◌, ℕ, List, [], ◌∷◌, map, Option, Some, None, Result, Ok, Err, refl, ap}
-use Rattle.any_log.specs.Held.{for_stream}
-use Rattle.any_log.specs.Whole.{AnyWhole, whole, rebuilt, beaten, made_for as made_any, readers_in, received}
-use Rattle.driver_core.specs.declared.event.Event.TheVariants.{Setup as SetUp}
-use Rattle.driver_core.specs.declared.image_request.Astray.{Astray}
-use Rattle.driver_core.specs.declared.image_request.Astray.TheVariants.{NoStream}
-use Rattle.driver_core.specs.declared.log_request.LogRequest.{LogRequest}
-use Rattle.driver_core.specs.declared.publication_request.JoinRequest.{JoinRequest}
+use Rattle.log_traffic.specs.Held.{for_stream}
+use Rattle.log_traffic.specs.Whole.{AnyWhole, whole, rebuilt, beaten, made_for as made_any, readers_in, received}
+use Rattle.driver_core.specs.declared.state.event.Event.TheVariants.{Setup as SetUp}
+use Rattle.driver_core.specs.declared.asked.image_request.Astray.{Astray}
+use Rattle.driver_core.specs.declared.asked.image_request.Astray.TheVariants.{NoStream}
+use Rattle.driver_core.specs.declared.asked.log_request.LogRequest.{LogRequest}
+use Rattle.driver_core.specs.declared.asked.publication_request.JoinRequest.{JoinRequest}
 use Rattle.driver_core.specs.PublicationRequests.{joining_of, resending_of}
-use Rattle.driver_steps.specs.declared.cause.Cause.{Cause}
-use Rattle.driver_steps.specs.declared.cause.Cause.TheVariants.{Astray as IsAstray, Unread}
+use Rattle.log_steps.specs.declared.cause.Cause.{Cause}
+use Rattle.log_steps.specs.declared.cause.Cause.TheVariants.{Astray as IsAstray, Unread}
 use Rattle.driver_core.specs.State.{State}
-use Rattle.driver_steps.specs.Ends.{RunEnd, Moved, conducted, dropped, on_asked, on_image, on_log, on_told}
-use Rattle.driver_steps.specs.Seen.{image_seen, packet_seen}
-use Rattle.driver_steps.specs.Hearing.{nak_move, status_move}
-use Rattle.driver_steps.specs.Moves.{WholeLog, Move}
+use Rattle.driver_steps.specs.Ends.{conducted, dropped, image_by, Moved, on_asked, on_image, on_log, on_packet, on_told, RunEnd}
+use Rattle.log_steps.specs.Hearing.{nak_move, status_move}
+use Rattle.log_steps.specs.Moves.{WholeLog, Move}
 use Rattle.driver_steps.proofs.QuietLemmas.{IsQuiet, nak_quiet, status_quiet}
-use Rattle.driver_steps.specs.Receiving.{beat_move, receive_move, unheard}
+use Rattle.log_steps.specs.Receiving.{beat_move, receive_move, unheard}
 use Rattle.channel_uri.specs.declared.address.Address.{Address}
 use Rattle.frame_codec.specs.declared.fault.BadPacket.{BadPacket}
 use Rattle.frame_codec.specs.declared.header.TermPlace.{TermPlace}
@@ -27,7 +26,7 @@ use Rattle.frame_codec.specs.Datagram.{Content, frames, beat, nak, status, setup
 use Rattle.frame_codec.specs.Frame.{Sent}
 use Rattle.image_log.specs.Rebuilt.{Rebuilt, after_insert}
 use Rattle.log_pairs.specs.declared.pair.Pair.{Pair}
-use Rattle.image_receiver.specs.Receiving.{after_beat, after_data, after_frame, after_frames}
+use Rattle.log_traffic.specs.Receiving.{after_beat, after_data, after_frame, after_frames}
 
 -- ---- one of these
 
@@ -60,15 +59,15 @@ told_cases P e now from fields asks drops (Some request) =
     asks request.source (status_move now from request.decision fields) (status_quiet now from request.decision fields)
 
 pub packet_cases : (P : Moved → Type 0) (s : State) (e : RunEnd) (now : ℕ) (local from : Address) → PacketCases P e now local from →
-    (read : Result Content BadPacket) → P (packet_seen s e now local from read)
+    (read : Result Content BadPacket) → P (on_packet s e now local from read)
 packet_cases P s e now local from cases (Err fault) = cases.drops (Unread fault)
 packet_cases P s e now local from cases (Ok (frames [])) = cases.drops (IsAstray NoStream)
 packet_cases P s e now local from cases (Ok (frames (frame ∷ later))) =
     image_cases P e (receive_move now (frame ∷ later)) (λ source. cases.receives source (frame ∷ later)) cases.drops
-    (image_seen s e local from frame.header.place)
+    (image_by s e local from frame.header.place)
 packet_cases P s e now local from cases (Ok (beat header)) =
     image_cases P e (beat_move now header.place) (λ source. cases.hears source header.place) cases.drops
-    (image_seen s e local from header.place)
+    (image_by s e local from header.place)
 packet_cases P s e now local from cases (Ok (setup fields)) = cases.sets_up fields
 packet_cases P s e now local from cases (Ok (nak fields)) =
     asked_cases P e now from fields cases.asks cases.drops (resending_of s from fields.session_id fields.stream_id)

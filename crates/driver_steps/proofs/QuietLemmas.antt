@@ -1,19 +1,19 @@
 -- Moves that leave of a log its number, its frames, who reads it and what it is made for.
 use Rattle.std.proofs.Common.{◌≡◌, ℕ, Bool, Option, Some, None, refl, sym, subst}
-use Rattle.any_log.proofs.StillLemmas.{IsStill, hearing_still, is_still, report_still, turn_still}
-use Rattle.any_log.specs.Whole.{AnyWhole}
 use Rattle.channel_uri.specs.declared.address.Address.{Address}
 use Rattle.driver_core.specs.SendRequests.{sending_of}
 use Rattle.driver_core.specs.State.{State}
-use Rattle.driver_steps.specs.declared.answer.Answer.TheVariants.{Gone as IsGone}
-use Rattle.driver_steps.specs.Ends.{RunEnd, Moved, on_log, on_report_by}
-use Rattle.driver_steps.specs.Hearing.{nak_move, status_move}
-use Rattle.driver_steps.specs.Moves.{WholeLog, Move}
-use Rattle.driver_steps.specs.Reporting.{report_move}
-use Rattle.driver_steps.specs.Sending.{pace_of, send_by, send_move}
-use Rattle.driver_steps.proofs.HearingLemmas.{status_source, status_whole}
+use Rattle.log_steps.specs.declared.answer.Answer.TheVariants.{Gone as IsGone}
+use Rattle.driver_steps.specs.Ends.{RunEnd, Moved, on_log, on_report}
+use Rattle.log_steps.specs.Hearing.{nak_move, status_move}
+use Rattle.log_steps.specs.Moves.{WholeLog, Move}
+use Rattle.log_steps.specs.Reporting.{report_move}
+use Rattle.log_steps.specs.Sending.{pace_of, send_by, send_move}
+use Rattle.log_steps.proofs.HearingLemmas.{status_source, status_whole}
 use Rattle.frame_codec.specs.declared.nak.Nak.{Nak}
 use Rattle.frame_codec.specs.declared.status_message.StatusMessage.{StatusMessage}
+use Rattle.log_traffic.proofs.StillLemmas.{IsStill, hearing_still, is_still, report_still, turn_still}
+use Rattle.log_traffic.specs.Whole.{AnyWhole}
 use Rattle.policy_core.specs.declared.decision.Decision.{Decision}
 
 pub record IsStillLog (log new : WholeLog) : Type 0 where
@@ -60,7 +60,7 @@ send_quiet s now log = send_still s now log (sending_of s log.source)
 -- there is no such image, or its log moves so
 pub report_cases : (P : Moved → Type 0) (s : State) (e : RunEnd) (now source : ℕ) →
     P (record { after = e; answer = IsGone }) → ((move : WholeLog → Move) → IsQuiet move → P (on_log e source move IsGone)) →
-    (to : Option Address) → P (on_report_by s e now source to)
+    (to : Option Address) → P (on_report s e now source to)
 report_cases P s e now source stays moves None = stays
 report_cases P s e now source stays moves (Some to) =
     moves (report_move now s.settings.receiver_id to) (report_quiet now s.settings.receiver_id to)

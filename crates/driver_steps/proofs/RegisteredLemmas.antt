@@ -3,26 +3,25 @@ use Rattle.std.proofs.Common.{◌≡◌, ℕ, ◌==◌, ◌&&◌, Bool, true, fa
 use Rattle.std.specs.List.{All}
 use Rattle.std.proofs.lemmas.Bool.{eqb-true}
 use Rattle.std.proofs.lemmas.List.Elements.{All-head, All-nil, All-tail}
-use Rattle.driver_core.specs.declared.event.Event.{Event}
-use Rattle.driver_core.specs.declared.event.Event.TheVariants.{Setup as SetUp}
-use Rattle.driver_core.specs.declared.event.Inputs.{Inputs}
-use Rattle.driver_core.specs.declared.peer.Peer.{Peer}
-use Rattle.driver_core.specs.declared.settings.Settings.{Settings}
+use Rattle.driver_core.specs.declared.state.event.Event.{Event}
+use Rattle.driver_core.specs.declared.state.event.Event.TheVariants.{Setup as SetUp}
+use Rattle.driver_core.specs.declared.state.event.Inputs.{Inputs}
+use Rattle.driver_core.specs.declared.state.peer.Peer.{Peer}
+use Rattle.driver_core.specs.declared.state.settings.Settings.{Settings}
 use Rattle.driver_core.specs.LogRequests.{offering_of, registration_at}
 use Rattle.driver_core.specs.PublicationRequests.{publisher_of}
 use Rattle.driver_core.specs.Renewal.{source_at}
 use Rattle.driver_core.specs.Soundness.{AreSettings, IsSound}
 use Rattle.driver_core.specs.State.{State, opened}
 use Rattle.driver_core.proofs.SoundnessLemmas.{moves_logs, registries_sound}
-use Rattle.driver_steps.specs.declared.answer.Answer.TheVariants.{Gone as IsGone}
-use Rattle.driver_steps.specs.Sending.{send_move}
+use Rattle.log_steps.specs.declared.answer.Answer.TheVariants.{Gone as IsGone}
+use Rattle.log_steps.specs.Sending.{send_move}
 use Rattle.driver_steps.specs.declared.step.Step.{Step}
 use Rattle.driver_steps.specs.declared.step.Step.TheVariants.{Conductor, Packet, Offer, Poll, Image, List as Lists, Send, Value}
-use Rattle.driver_steps.specs.Ends.{RunEnd, conducted, inputs_of, opening_end}
-use Rattle.driver_steps.specs.Moves.{poll_move}
-use Rattle.driver_steps.specs.Seen.{moved_seen}
+use Rattle.driver_steps.specs.Ends.{conducted, inputs_of, moved_by, opening_end, RunEnd}
+use Rattle.log_steps.specs.Moves.{poll_move}
 use Rattle.driver_steps.specs.Laws.{AtEachEnd}
-use Rattle.driver_steps.specs.Receiving.{beat_move, receive_move, unheard}
+use Rattle.log_steps.specs.Receiving.{beat_move, receive_move, unheard}
 use Rattle.frame_codec.specs.Datagram.{packet_of}
 use Rattle.driver_steps.specs.Registered.{AreRegistered, IsPublishedBy, IsWith}
 use Rattle.driver_steps.proofs.EndLemmas.{log_keeps_registry, offer_keeps_registry, report_keeps_registry, run_keeps}
@@ -30,7 +29,7 @@ use Rattle.driver_steps.proofs.PacketLemmas.{packet_cases}
 use Rattle.driver_steps.proofs.RegisteringLemmas.{registered_after}
 use Rattle.policy_core.specs.RuleList.{Rules}
 use Rattle.stream_registry.specs.declared.row.Registration.{Registration}
-use Rattle.stream_registry.specs.declared.row.Source.{Source}
+use Rattle.stream_registry.specs.declared.row.LogRow.{LogRow}
 use Rattle.stream_registry.specs.Origins.{is_published}
 
 -- ---- runs
@@ -49,7 +48,7 @@ event_keeps e event keeps =
       registered = registered_after e.registry event inputs keeps.sound keeps.registered;
     }
 
-step_keeps : (s : State) (e : RunEnd) (step : Step) → Keeps e.registry → Keeps (moved_seen s e step).after.registry
+step_keeps : (s : State) (e : RunEnd) (step : Step) → Keeps e.registry → Keeps (moved_by s e step).after.registry
 step_keeps s e (Conductor event) keeps = event_keeps e event keeps
 step_keeps s e (Packet now local from bytes) keeps =
     packet_cases (λ what. Keeps what.after.registry) s e now local from (record {
@@ -109,7 +108,7 @@ registration_holds P (first ∷ registrations) client number registration all is
     (registration_at registrations client number) (All-head P first registrations all)
     (registration_holds P registrations client number registration (All-tail P first registrations all)) is
 
-found_published : (number : ℕ) (logs : List Source) (log : Source) (b : Bool) (first : Source) → (first.number == number) ≡ b →
+found_published : (number : ℕ) (logs : List LogRow) (log : LogRow) (b : Bool) (first : LogRow) → (first.number == number) ≡ b →
     IsPublishedBy number first → (source_at logs number ≡ Some log → is_published log ≡ true) →
     cond b (Some first) (source_at logs number) ≡ Some log → is_published log ≡ true
 found_published number logs log true first same holds rest is =
@@ -117,7 +116,7 @@ found_published number logs log true first same holds rest is =
     subst (λ one. is_published one ≡ true) this (holds (eqb-true first.number number same))
 found_published number logs log false first same holds rest is = rest is
 
-pub published_at : (number : ℕ) (logs : List Source) (log : Source) → All (IsPublishedBy number) logs →
+pub published_at : (number : ℕ) (logs : List LogRow) (log : LogRow) → All (IsPublishedBy number) logs →
     source_at logs number ≡ Some log → is_published log ≡ true
 published_at number [] log all is = absurd (cc is)
 published_at number (first ∷ logs) log all is =
@@ -125,7 +124,7 @@ published_at number (first ∷ logs) log all is =
     (published_at number logs log (All-tail (IsPublishedBy number) first logs all)) is
 
 -- the log that a registration is with is a publication
-pub registered_publication : (s : State) (client number : ℕ) (registration : Registration) (log : Source) → AreRegistered s →
+pub registered_publication : (s : State) (client number : ℕ) (registration : Registration) (log : LogRow) → AreRegistered s →
     registration_at s.streams.registrations client number ≡ Some registration →
     source_at s.streams.sources registration.source ≡ Some log → is_published log ≡ true
 registered_publication s client number registration log registered is found =

@@ -5,18 +5,17 @@ use Rattle.std.proofs.lemmas.Bool.{and_parts}
 use Rattle.std.proofs.lemmas.List.Elements.{All-filter, All-map, All-nil, All-push, All-weaker}
 use Rattle.driver_core.proofs.SoundnessLemmas.{ruled_sound}
 use Rattle.driver_core.specs.Directing.{directed, recalled, with_destination, without_destination}
-use Rattle.driver_core.specs.Draft.{Draft}
-use Rattle.driver_core.specs.declared.event.Event.{Event}
-use Rattle.driver_core.specs.declared.event.Event.TheVariants.{Attach, Command, Reload, Setup, Tick}
-use Rattle.driver_core.specs.declared.event.Inputs.{Inputs}
-use Rattle.driver_core.specs.declared.outcome.Response.{Response}
-use Rattle.driver_core.specs.declared.refusal.Refusal.{Refusal}
+use Rattle.driver_core.specs.Draft.{Draft, answered, told, replied, replied_opening, refused}
+use Rattle.driver_core.specs.declared.state.event.Event.{Event}
+use Rattle.driver_core.specs.declared.state.event.Event.TheVariants.{Attach, Command, Reload, Setup, Tick}
+use Rattle.driver_core.specs.declared.state.event.Inputs.{Inputs}
+use Rattle.driver_core.specs.declared.state.outcome.Response.{Response}
+use Rattle.driver_core.specs.declared.state.refusal.Refusal.{Refusal}
 use Rattle.driver_core.specs.Attaching.{attached}
 use Rattle.driver_core.specs.Closing.{keep_alive, close}
 use Rattle.driver_core.specs.Commands.{heard, at_request}
 use Rattle.driver_core.specs.Conduct.{conduct, drafted, state_after, coming_to, moment_told}
 use Rattle.driver_core.specs.Counting.{counted, with_counter, valued, uncounted}
-use Rattle.driver_core.specs.Draft.{answered, told, replied, replied_opening, refused}
 use Rattle.driver_core.specs.Leaving.{left, all_left}
 use Rattle.driver_core.specs.Publishing.{published, with_directed_publication, with_publication}
 use Rattle.driver_core.specs.Reloading.{in_force, reloaded}
@@ -49,7 +48,7 @@ use Rattle.stream_registry.specs.declared.fault.StreamFault.TheVariants.{Conflic
 use Rattle.stream_registry.specs.declared.row.Origin.{Origin}
 use Rattle.stream_registry.specs.declared.row.Origin.TheVariants.{Published, Remote}
 use Rattle.stream_registry.specs.declared.row.Registration.{Registration}
-use Rattle.stream_registry.specs.declared.row.Source.{Source}
+use Rattle.stream_registry.specs.declared.row.LogRow.{LogRow}
 use Rattle.stream_registry.specs.declared.wanted.Adding.{Adding}
 use Rattle.stream_registry.specs.declared.wanted.Adding.TheVariants.{Join, Make}
 use Rattle.stream_registry.specs.declared.wanted.Wanted.{Wanted}
@@ -62,13 +61,13 @@ use Rattle.stream_registry.specs.Pairs.{pairs_of as pairs_on}
 use Rattle.stream_registry.specs.Sessions.{is_stated_again}
 use Rattle.stream_registry.specs.Streams.{Streams}
 
-abbrev IsPublication : Source → Type 0
+abbrev IsPublication : LogRow → Type 0
 IsPublication log = is_published log ≡ true
 
 -- ---- what one registration keeps
 
 -- it is with a publication of other logs too, of which none is an image of that number
-moves_with : (last later : ℕ) (logs others : List Source) (registration : Registration) → last ≤ later →
+moves_with : (last later : ℕ) (logs others : List LogRow) (registration : Registration) → last ≤ later →
     (All (IsPublishedBy registration.source) logs → All (IsPublishedBy registration.source) others) →
     IsWith last logs registration → IsWith later others registration
 moves_with last later logs others registration more keeps with = record {
@@ -76,7 +75,7 @@ moves_with last later logs others registration more keeps with = record {
   published = keeps with.published;
 }
 
-all_move : (last later : ℕ) (logs others : List Source) (registrations : List Registration) → last ≤ later →
+all_move : (last later : ℕ) (logs others : List LogRow) (registrations : List Registration) → last ≤ later →
     ((number : ℕ) → number ≤ last → All (IsPublishedBy number) logs → All (IsPublishedBy number) others) →
     All (IsWith last logs) registrations → All (IsWith later others) registrations
 all_move last later logs others registrations more keeps all =
@@ -87,7 +86,7 @@ all_move last later logs others registrations more keeps all =
 
 -- ---- logs that go, and that linger
 
-kept_move : (last : ℕ) (stays : Source → Bool) (logs : List Source) (registrations : List Registration) →
+kept_move : (last : ℕ) (stays : LogRow → Bool) (logs : List LogRow) (registrations : List Registration) →
     All (IsWith last logs) registrations → All (IsWith last (filter stays logs)) registrations
 kept_move last stays logs registrations all =
     all_move last last logs (filter stays logs) registrations (omega arith)
@@ -97,12 +96,12 @@ left_published : (now : ℕ) (origin : Origin) → is_published_by (left_by now 
 left_published now (Published exclusive since) = refl
 left_published now (Remote address initial_term join) = refl
 
-settled_published : (number now : ℕ) (used : Bool) (log : Source) → IsPublishedBy number log →
+settled_published : (number now : ℕ) (used : Bool) (log : LogRow) → IsPublishedBy number log →
     IsPublishedBy number (cond used log (left_alone now log))
 settled_published number now true log published = published
 settled_published number now false log published = λ is. left_published now log.origin ∙ published is
 
-settled_move : (last now : ℕ) (using registrations : List Registration) (logs : List Source) →
+settled_move : (last now : ℕ) (using registrations : List Registration) (logs : List LogRow) →
     All (IsWith last logs) registrations → All (IsWith last (map (settled_one using now) logs)) registrations
 settled_move last now using registrations logs all =
     all_move last last logs (map (settled_one using now) logs) registrations (omega arith)
@@ -113,7 +112,7 @@ settled_move last now using registrations logs all =
 
 -- ---- a log that comes, under the next number
 
-next_moves : (last : ℕ) (log : Source) (logs : List Source) (registrations : List Registration) → log.number ≡ last + 1 →
+next_moves : (last : ℕ) (log : LogRow) (logs : List LogRow) (registrations : List Registration) → log.number ≡ last + 1 →
     All (IsWith last logs) registrations → All (IsWith (last + 1) (logs ++ log ∷ [])) registrations
 next_moves last log logs registrations next all =
     all_move last (last + 1) logs (logs ++ log ∷ []) registrations (omega arith)
@@ -122,7 +121,7 @@ next_moves last log logs registrations next all =
 
 -- ---- a log that is joined
 
-joinable_published : (channel : Shape) (stream : ℤ) (log : Source) → is_joinable channel stream log ≡ true →
+joinable_published : (channel : Shape) (stream : ℤ) (log : LogRow) → is_joinable channel stream log ≡ true →
     is_published log ≡ true
 unfolding is_joinable
 joinable_published channel stream log joinable =
@@ -132,11 +131,11 @@ joinable_published channel stream log joinable =
     (and_parts _ _ shared.0).0
 
 -- what is granted is a new log, or one with which registrations may be
-abbrev IsJoined : ℕ → List Source → Adding → Type 0
+abbrev IsJoined : ℕ → List LogRow → Adding → Type 0
 IsJoined last logs (Join source session) = (source ≤ last) × All (IsPublishedBy source) logs
 IsJoined last logs (Make session) = Unit {0}
 
-made_joined : (last : ℕ) (logs : List Source) (conflicts room : Bool) (session : ℤ) (adding : Adding) →
+made_joined : (last : ℕ) (logs : List LogRow) (conflicts room : Bool) (session : ℤ) (adding : Adding) →
     cond {A = Result Adding StreamFault} conflicts (Err Conflict) (cond room (Ok (Make session)) (Err Full)) ≡ Ok adding →
     IsJoined last logs adding
 made_joined last logs true room session adding is = absurd (cc is)
@@ -145,7 +144,7 @@ made_joined last logs false true session adding is =
     let same : Make session ≡ adding = cc is in
     subst (IsJoined last logs) same tt
 
-log_joined : (last : ℕ) (logs : List Source) (conflicts room : Bool) (log : Source) (adding : Adding) →
+log_joined : (last : ℕ) (logs : List LogRow) (conflicts room : Bool) (log : LogRow) (adding : Adding) →
     Found IsPublication 0 last logs log →
     cond {A = Result Adding StreamFault} conflicts (Err Conflict)
     (cond room (Ok (Join log.number log.session)) (Err Full)) ≡ Ok adding →
@@ -165,7 +164,7 @@ making_joined last streams wanted adding is =
     (has_room_for_registration streams && has_room_for_log streams) _ adding is
 
 by_joined : (last : ℕ) (streams : Streams) (wanted : Wanted) (adding : Adding) → Ascend 0 last streams.sources →
-    (found : Option Source) → joined_at streams.sources wanted.channel wanted.stream ≡ found →
+    (found : Option LogRow) → joined_at streams.sources wanted.channel wanted.stream ≡ found →
     adding_by streams wanted found ≡ Ok adding → IsJoined last streams.sources adding
 unfolding joining_of
 by_joined last streams wanted adding up None found is = making_joined last streams wanted adding is
@@ -175,7 +174,7 @@ by_joined last streams wanted adding up (Some log) found is =
     (found_only IsPublication (is_joinable wanted.channel wanted.stream) 0 last streams.sources log
     (joinable_published wanted.channel wanted.stream) up found) is
 
-either_joined : (last : ℕ) (logs : List Source) (adding : Adding) (b : Bool) (one other : Result Adding StreamFault) →
+either_joined : (last : ℕ) (logs : List LogRow) (adding : Adding) (b : Bool) (one other : Result Adding StreamFault) →
     (one ≡ Ok adding → IsJoined last logs adding) → (other ≡ Ok adding → IsJoined last logs adding) →
     cond b one other ≡ Ok adding → IsJoined last logs adding
 either_joined last logs adding true one other first second is = first is
@@ -218,7 +217,7 @@ unfolding keep_alive told
 keepalive_registers s registered = registered
 
 -- a number is drawn, and no log comes
-drawn_registers : (last : ℕ) (logs : List Source) (registrations : List Registration) → All (IsWith last logs) registrations →
+drawn_registers : (last : ℕ) (logs : List LogRow) (registrations : List Registration) → All (IsWith last logs) registrations →
     All (IsWith (last + 1) logs) registrations
 drawn_registers last logs registrations all =
     all_move last (last + 1) logs logs registrations (omega arith) (λ number drawn published. published) all

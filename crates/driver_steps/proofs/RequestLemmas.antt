@@ -1,45 +1,45 @@
 -- A datagram goes to the log that it is for, as it is said of datagrams at the end of a run.
 use Rattle.std.proofs.Common.{◌≡◌, ℕ, List, [], ◌∷◌, Option, Some, None, Result, Ok, Err, refl, sym, ap, subst, ◌∙◌}
 use Rattle.std.specs.Prelude.{IfSome}
-use Rattle.any_log.specs.Asking.{nak_reply, status_answer}
 use Rattle.channel_uri.specs.declared.address.Address.{Address}
-use Rattle.driver_core.specs.declared.image_request.Astray.{Astray}
-use Rattle.driver_core.specs.declared.log_request.LogRequest.{LogRequest}
-use Rattle.driver_core.specs.declared.publication_request.JoinRequest.{JoinRequest}
+use Rattle.driver_core.specs.declared.asked.image_request.Astray.{Astray}
+use Rattle.driver_core.specs.declared.asked.log_request.LogRequest.{LogRequest}
+use Rattle.driver_core.specs.declared.asked.publication_request.JoinRequest.{JoinRequest}
 use Rattle.driver_core.specs.ImageRequests.{image_for, image_named}
 use Rattle.driver_core.specs.PublicationRequests.{joining_of, resending_of}
 use Rattle.driver_core.specs.State.{State}
-use Rattle.driver_steps.specs.declared.answer.Answer.{Answer}
-use Rattle.driver_steps.specs.declared.packets.PacketRequest.{PacketRequest}
+use Rattle.log_steps.specs.declared.answer.Answer.{Answer}
+use Rattle.log_steps.specs.declared.packets.PacketRequest.{PacketRequest}
 use Rattle.driver_steps.specs.declared.step.Step.TheVariants.{Packet}
-use Rattle.driver_steps.specs.declared.answer.Answer.TheVariants.{NoMemory}
-use Rattle.driver_steps.specs.declared.told.Came.TheVariants.{SetUp as CameSetUp, Told as CameTold}
-use Rattle.driver_steps.specs.declared.told.Told.{Told}
+use Rattle.log_steps.specs.declared.answered.Came.TheVariants.{Answered as CameAnswered}
+use Rattle.log_steps.specs.declared.answered.Answered.{Answered}
 use Rattle.driver_steps.specs.Coming.{Comes, ComesAs, content_decided}
-use Rattle.driver_steps.specs.Decided.{DecidesFirst, DecidesUnless, asked_decision, decided_unless, decision_in, told_decision}
-use Rattle.driver_steps.specs.Ends.{RunEnd, log_at, on_asked, on_image, on_log, on_packet, on_told}
-use Rattle.driver_steps.specs.Held.{HeldLog, HeldLogs, held_at}
-use Rattle.driver_steps.specs.Memory.{is_listed, packet_takes}
-use Rattle.driver_steps.specs.Moves.{Move, MovesFirst, WholeLog}
-use Rattle.driver_steps.specs.Packets.{IsForRequest, IsOpenContent, IsSoundContent, LogsDecide, content_move, of_asked, of_image, of_told, on_request, packet_request, request_decided, request_seen}
-use Rattle.driver_steps.specs.Receiving.{beat_move, receive_move, unheard}
-use Rattle.driver_steps.specs.Seen.{ComesSeen, ComesSeenAs, Sees, image_between, image_seen, is_same_image, packet_seen, under}
+use Rattle.driver_steps.specs.OpenLogs.{DecidesFirst, HeldLogs, held_at, MovesFirst}
+use Rattle.driver_steps.specs.EndDecisions.{asked_decision, DecidesUnless, decision_in, told_decision, under}
+use Rattle.driver_steps.specs.Ends.{image_between, image_by, is_same_image, log_at, on_asked, on_image, on_log, on_packet, on_told, RunEnd}
+use Rattle.log_steps.specs.Held.{HeldLog}
+use Rattle.log_steps.specs.Memory.{is_listed}
+use Rattle.driver_steps.specs.StepMemory.{packet_takes}
+use Rattle.log_steps.specs.Moves.{Move, WholeLog}
+use Rattle.driver_steps.specs.Requests.{IsForRequest, IsOpenContent, LogsDecide, on_request, request_decided, request_by}
+use Rattle.log_steps.specs.Packets.{IsSoundContent, content_move, of_asked, of_image, of_told}
+use Rattle.log_steps.specs.Receiving.{beat_move, receive_move, unheard}
 use Rattle.driver_steps.specs.Standing.{Held, Match, Serves, ServesAs}
-use Rattle.driver_steps.proofs.DecidedLemmas.{decided_first}
+use Rattle.driver_steps.proofs.EndDecisionLemmas.{decided_first}
 use Rattle.driver_steps.proofs.ImageLemmas.{are_for_first}
 use Rattle.driver_steps.proofs.RunLemmas.{IsTold, asked_told, first_told, heard_told, told_unless}
-use Rattle.driver_steps.proofs.HearingLemmas.{status_told}
-use Rattle.driver_steps.proofs.SeenLemmas.{there_now}
+use Rattle.log_steps.proofs.HearingLemmas.{status_told}
+use Rattle.driver_steps.proofs.ServingLemmas.{there_now}
 use Rattle.frame_codec.specs.declared.fault.BadPacket.{BadPacket}
 use Rattle.frame_codec.specs.declared.header.TermPlace.{TermPlace}
 use Rattle.frame_codec.specs.declared.nak.Nak.{Nak}
-use Rattle.frame_codec.specs.declared.setup.Setup.{Setup}
 use Rattle.frame_codec.specs.declared.status_message.StatusMessage.{StatusMessage}
 use Rattle.frame_codec.specs.declared.datagram.Packet.{Packet as FramePacket}
 use Rattle.frame_codec.specs.Datagram.{Content, content, frames, beat, nak, status, setup, packet_of}
 use Rattle.frame_codec.specs.Steps.{Equals}
 use Rattle.frame_codec.specs.Frame.{Sent}
 use Rattle.frame_codec.specs.Sound.{AreOfOneTerm, AreTold}
+use Rattle.log_traffic.specs.Asking.{nak_reply, status_answer}
 use Rattle.policy_core.specs.declared.decision.Decision.{Decision}
 
 -- ---- what it does, at an end
@@ -60,39 +60,21 @@ told_goes : (e : RunEnd) (now : ℕ) (from : Address) (fields : StatusMessage) (
 told_goes e now from fields None = refl
 told_goes e now from fields (Some request) = refl
 
--- by the newest registry
-pub packet_goes : (s : State) (e : RunEnd) (now : ℕ) (local from : Address) (content : Content) → IsOpenContent content → s ≡ e.registry →
-    on_request e now from content (packet_request s local from content) ≡ on_packet e now local from (Ok content)
-packet_goes s e now local from (frames []) other same = refl
-packet_goes s e now local from (frames (frame ∷ later)) other same =
+-- by that registry, where the newest is the end's
+pub packet_goes : (shown s : State) (e : RunEnd) (now : ℕ) (local from : Address) (content : Content) → IsOpenContent content →
+    s ≡ e.registry → on_request e now from content (request_by shown s local from content) ≡ on_packet shown e now local from (Ok content)
+packet_goes shown s e now local from (frames []) other same = refl
+packet_goes shown s e now local from (frames (frame ∷ later)) other same =
     rw same
-    (image_goes e now from (frames (frame ∷ later)) (receive_move now (frame ∷ later))
-    (image_for e.registry local from frame.header.place.session_id frame.header.place.stream_id) (λ log. refl) refl)
-packet_goes s e now local from (beat header) other same =
-    rw same
-    (image_goes e now from (beat header) (beat_move now header.place)
-    (image_for e.registry local from header.place.session_id header.place.stream_id) (λ log. refl) refl)
-packet_goes s e now local from (setup fields) other same = absurd other
-packet_goes s e now local from (nak fields) other same =
-    rw same (asked_goes e now from fields (resending_of e.registry from fields.session_id fields.stream_id))
-packet_goes s e now local from (status fields) other same =
-    rw same (told_goes e now from fields (joining_of e.registry from fields.session_id fields.stream_id))
-
--- by an older one
-pub packet_goes_seen : (older s : State) (e : RunEnd) (now : ℕ) (local from : Address) (content : Content) → IsOpenContent content →
-    s ≡ e.registry → on_request e now from content (request_seen older s local from content) ≡ packet_seen older e now local from (Ok content)
-packet_goes_seen older s e now local from (frames []) other same = refl
-packet_goes_seen older s e now local from (frames (frame ∷ later)) other same =
-    rw same
-    (image_goes e now from (frames (frame ∷ later)) (receive_move now (frame ∷ later)) (image_seen older e local from frame.header.place)
+    (image_goes e now from (frames (frame ∷ later)) (receive_move now (frame ∷ later)) (image_by shown e local from frame.header.place)
     (λ log. refl) refl)
-packet_goes_seen older s e now local from (beat header) other same =
-    rw same (image_goes e now from (beat header) (beat_move now header.place) (image_seen older e local from header.place) (λ log. refl) refl)
-packet_goes_seen older s e now local from (setup fields) other same = absurd other
-packet_goes_seen older s e now local from (nak fields) other same =
-    asked_goes e now from fields (resending_of older from fields.session_id fields.stream_id)
-packet_goes_seen older s e now local from (status fields) other same =
-    told_goes e now from fields (joining_of older from fields.session_id fields.stream_id)
+packet_goes shown s e now local from (beat header) other same =
+    rw same (image_goes e now from (beat header) (beat_move now header.place) (image_by shown e local from header.place) (λ log. refl) refl)
+packet_goes shown s e now local from (setup fields) other same = absurd other
+packet_goes shown s e now local from (nak fields) other same =
+    asked_goes e now from fields (resending_of shown from fields.session_id fields.stream_id)
+packet_goes shown s e now local from (status fields) other same =
+    told_goes e now from fields (joining_of shown from fields.session_id fields.stream_id)
 
 -- ---- what is decided of it, at an end
 
@@ -112,43 +94,24 @@ asked_decided : (e : RunEnd) (request : Option LogRequest) → request_decided e
 asked_decided e None = refl
 asked_decided e (Some request) = refl
 
--- by the registry of that end
-pub request_decides : (e : RunEnd) (local from : Address) (content : Content) →
-    request_decided e (packet_request e.registry local from content) ≡ content_decided e from (Ok content)
-request_decides e local from (frames []) = refl
-request_decides e local from (frames (frame ∷ later)) =
-    image_undecided e (image_for e.registry local from frame.header.place.session_id frame.header.place.stream_id)
-request_decides e local from (beat header) = image_undecided e (image_for e.registry local from header.place.session_id header.place.stream_id)
-request_decides e local from (setup fields) = refl
-request_decides e local from (nak fields) = asked_decided e (resending_of e.registry from fields.session_id fields.stream_id)
-request_decides e local from (status fields) = told_decided e (joining_of e.registry from fields.session_id fields.stream_id)
-
 -- whichever is the newest
-pub seen_decides : (newest : State) (e : RunEnd) (local from : Address) (content : Content) →
-    request_decided e (request_seen e.registry newest local from content) ≡ content_decided e from (Ok content)
-seen_decides newest e local from (frames []) = refl
-seen_decides newest e local from (frames (frame ∷ later)) = image_undecided e _
-seen_decides newest e local from (beat header) = image_undecided e _
-seen_decides newest e local from (setup fields) = refl
-seen_decides newest e local from (nak fields) = asked_decided e (resending_of e.registry from fields.session_id fields.stream_id)
-seen_decides newest e local from (status fields) = told_decided e (joining_of e.registry from fields.session_id fields.stream_id)
+pub request_decides : (newest : State) (e : RunEnd) (local from : Address) (content : Content) →
+    request_decided e (request_by e.registry newest local from content) ≡ content_decided e from (Ok content)
+request_decides newest e local from (frames []) = refl
+request_decides newest e local from (frames (frame ∷ later)) = image_undecided e _
+request_decides newest e local from (beat header) = image_undecided e _
+request_decides newest e local from (setup fields) = refl
+request_decides newest e local from (nak fields) = asked_decided e (resending_of e.registry from fields.session_id fields.stream_id)
+request_decides newest e local from (status fields) = told_decided e (joining_of e.registry from fields.session_id fields.stream_id)
 
--- ---- a driver, by the newest registry and by an older one
+-- ---- a driver
 
-pub decides_newest : (s : State) (logs : HeldLogs) (local from : Address) (content : Content) (answer : Answer) (decision : Option Decision) →
-    LogsDecide logs (λ e. request_decided e (packet_request s local from content)) answer decision →
-    DecidesUnless (record { registry = s; logs = logs.logs }) (λ e. content_decided e from (Ok content)) answer decision
-decides_newest s logs local from content answer decision decides = record {
+pub decides_by : (shown s : State) (logs : HeldLogs) (local from : Address) (content : Content) (answer : Answer) (decision : Option Decision) →
+    LogsDecide logs (λ e. request_decided e (request_by shown s local from content)) answer decision →
+    DecidesUnless (record { registry = shown; logs = logs.logs }) (λ e. content_decided e from (Ok content)) answer decision
+decides_by shown s logs local from content answer decision decides = record {
   on = λ e stands.
-      rw (← request_decides e local from content, ← stands.registry) ((decides.on s).on e stands);
-}
-
-pub decides_seen : (older s : State) (logs : HeldLogs) (local from : Address) (content : Content) (answer : Answer) (decision : Option Decision) →
-    LogsDecide logs (λ e. request_decided e (request_seen older s local from content)) answer decision →
-    DecidesUnless (record { registry = older; logs = logs.logs }) (λ e. content_decided e from (Ok content)) answer decision
-decides_seen older s logs local from content answer decision decides = record {
-  on = λ e stands.
-      rw (← seen_decides s e local from content, ← stands.registry) ((decides.on older).on e stands);
+      rw (← request_decides s e local from content, ← stands.registry) ((decides.on shown).on e stands);
 }
 
 -- ---- what it is answered is no want of memory
@@ -205,31 +168,19 @@ told_any : (logs : List HeldLog) (fields : StatusMessage) (request : Option Join
 told_any logs fields None = tt
 told_any logs fields (Some request) = any_log (held_at logs request.source)
 
-pub is_for_request : (s : State) (held : HeldLogs) (local from : Address) (content : Content) → Match s held → IsSoundContent content →
-    IsForRequest held.logs (packet_request s local from content) content
-is_for_request s held local from (frames []) match sound = tt
-is_for_request s held local from (frames (frame ∷ later)) match sound =
-    request_frames s held local from frame later (image_for s local from frame.header.place.session_id frame.header.place.stream_id) match
-    (λ source is. is) sound.0 sound.1
-is_for_request s held local from (beat header) match sound =
-    image_any held.logs header (image_for s local from header.place.session_id header.place.stream_id)
-is_for_request s held local from (setup fields) match sound = tt
-is_for_request s held local from (nak fields) match sound = asked_any held.logs fields (resending_of s from fields.session_id fields.stream_id)
-is_for_request s held local from (status fields) match sound = told_any held.logs fields (joining_of s from fields.session_id fields.stream_id)
-
-pub is_for_seen : (older s : State) (held : HeldLogs) (local from : Address) (content : Content) → Match s held → IsSoundContent content →
-    IsForRequest held.logs (request_seen older s local from content) content
-is_for_seen older s held local from (frames []) match sound = tt
-is_for_seen older s held local from (frames (frame ∷ later)) match sound =
+pub is_for_request : (shown s : State) (held : HeldLogs) (local from : Address) (content : Content) → Match s held → IsSoundContent content →
+    IsForRequest held.logs (request_by shown s local from content) content
+is_for_request shown s held local from (frames []) match sound = tt
+is_for_request shown s held local from (frames (frame ∷ later)) match sound =
     let place : TermPlace = frame.header.place in
     request_frames s held local from frame later
-    (image_between older s local from place) match
-    (there_now (is_same_image (image_named older local place.session_id place.stream_id) (image_named s local place.session_id place.stream_id))
-    (image_for older local from place.session_id place.stream_id) (image_for s local from place.session_id place.stream_id)) sound.0 sound.1
-is_for_seen older s held local from (beat header) match sound = image_any held.logs header _
-is_for_seen older s held local from (setup fields) match sound = tt
-is_for_seen older s held local from (nak fields) match sound = asked_any held.logs fields (resending_of older from fields.session_id fields.stream_id)
-is_for_seen older s held local from (status fields) match sound = told_any held.logs fields (joining_of older from fields.session_id fields.stream_id)
+    (image_between shown s local from place) match
+    (there_now (is_same_image (image_named shown local place.session_id place.stream_id) (image_named s local place.session_id place.stream_id))
+    (image_for shown local from place.session_id place.stream_id) (image_for s local from place.session_id place.stream_id)) sound.0 sound.1
+is_for_request shown s held local from (beat header) match sound = image_any held.logs header _
+is_for_request shown s held local from (setup fields) match sound = tt
+is_for_request shown s held local from (nak fields) match sound = asked_any held.logs fields (resending_of shown from fields.session_id fields.stream_id)
+is_for_request shown s held local from (status fields) match sound = told_any held.logs fields (joining_of shown from fields.session_id fields.stream_id)
 
 -- ---- what a datagram comes to that is no SETUP
 
@@ -241,88 +192,28 @@ takes_listed answer (setup fields) other = absurd other
 takes_listed answer (nak fields) other = refl
 takes_listed answer (status fields) other = refl
 
-comes_as : (old new : Held) (now : ℕ) (local from : Address) (bytes : List ℕ) (content : Content) (told : Told) → IsOpenContent content →
-    Serves old new (Packet now local from bytes) told.answer →
-    DecidesUnless old (λ e. content_decided e from (Ok content)) told.answer told.decision →
-    ComesAs old new now local from bytes (Ok content) (CameTold told)
-comes_as old new now local from bytes (frames sent) told other serves decides = (serves, decides)
-comes_as old new now local from bytes (beat header) told other serves decides = (serves, decides)
-comes_as old new now local from bytes (setup fields) told other serves decides = absurd other
-comes_as old new now local from bytes (nak fields) told other serves decides = (serves, decides)
-comes_as old new now local from bytes (status fields) told other serves decides = (serves, decides)
+comes_as : (shown : State) (old new : Held) (now : ℕ) (local from : Address) (bytes : List ℕ) (content : Content) (told : Answered) → IsOpenContent content →
+    Serves shown old new (Packet now local from bytes) told.answer →
+    DecidesUnless (under old shown) (λ e. content_decided e from (Ok content)) told.answer told.decision →
+    ComesAs shown old new now local from bytes (Ok content) (CameAnswered told)
+comes_as shown old new now local from bytes (frames sent) told other serves decides = (serves, decides)
+comes_as shown old new now local from bytes (beat header) told other serves decides = (serves, decides)
+comes_as shown old new now local from bytes (setup fields) told other serves decides = absurd other
+comes_as shown old new now local from bytes (nak fields) told other serves decides = (serves, decides)
+comes_as shown old new now local from bytes (status fields) told other serves decides = (serves, decides)
 
-pub comes_told : (old new : Held) (now : ℕ) (local from : Address) (bytes : List ℕ) (content : Content) (told : Told) → IsOpenContent content →
-    packet_of bytes ≡ Ok content → ServesAs old new (λ e. on_packet e now local from (Ok content)) told.answer →
-    DecidesUnless old (λ e. content_decided e from (Ok content)) told.answer told.decision →
-    Comes old new now local from bytes (CameTold told)
-comes_told old new now local from bytes content told other is serves decides =
-    let all : Serves old new (Packet now local from bytes) told.answer = record {
+pub comes_told : (shown : State) (old new : Held) (now : ℕ) (local from : Address) (bytes : List ℕ) (content : Content) (told : Answered) →
+    IsOpenContent content → packet_of bytes ≡ Ok content → ServesAs old new (λ e. on_packet shown e now local from (Ok content)) told.answer →
+    DecidesUnless (under old shown) (λ e. content_decided e from (Ok content)) told.answer told.decision →
+    Comes shown old new now local from bytes (CameAnswered told)
+comes_told shown old new now local from bytes content told other is serves decides =
+    let all : Serves shown old new (Packet now local from bytes) told.answer = record {
       on = λ e stands. rw is (serves.on e stands);
       without_memory = λ e stands.
-          rw (is, takes_listed (on_packet e now local from (Ok content)).answer content other) (serves.without_memory e stands);
+          rw (is, takes_listed (on_packet shown e now local from (Ok content)).answer content other) (serves.without_memory e stands);
     } in
-    subst (λ (read : Result Content BadPacket). ComesAs old new now local from bytes read (CameTold told)) (sym is)
-    (comes_as old new now local from bytes content told other all decides)
-
-seen_as : (older : State) (old new : Held) (now : ℕ) (local from : Address) (bytes : List ℕ) (content : Content) (told : Told) → IsOpenContent content →
-    Sees older old new (Packet now local from bytes) told.answer →
-    DecidesUnless (under old older) (λ e. content_decided e from (Ok content)) told.answer told.decision →
-    ComesSeenAs older old new now local from bytes (Ok content) (CameTold told)
-seen_as older old new now local from bytes (frames sent) told other sees decides = (sees, decides)
-seen_as older old new now local from bytes (beat header) told other sees decides = (sees, decides)
-seen_as older old new now local from bytes (setup fields) told other sees decides = absurd other
-seen_as older old new now local from bytes (nak fields) told other sees decides = (sees, decides)
-seen_as older old new now local from bytes (status fields) told other sees decides = (sees, decides)
-
-pub comes_told_seen : (older : State) (old new : Held) (now : ℕ) (local from : Address) (bytes : List ℕ) (content : Content) (told : Told) →
-    IsOpenContent content → packet_of bytes ≡ Ok content → ServesAs old new (λ e. packet_seen older e now local from (Ok content)) told.answer →
-    DecidesUnless (under old older) (λ e. content_decided e from (Ok content)) told.answer told.decision →
-    ComesSeen older old new now local from bytes (CameTold told)
-comes_told_seen older old new now local from bytes content told other is serves decides =
-    let all : Sees older old new (Packet now local from bytes) told.answer = record {
-      on = λ e stands. rw is (serves.on e stands);
-      without_memory = λ e stands.
-          rw (is, takes_listed (packet_seen older e now local from (Ok content)).answer content other) (serves.without_memory e stands);
-    } in
-    subst (λ (read : Result Content BadPacket). ComesSeenAs older old new now local from bytes read (CameTold told)) (sym is)
-    (seen_as older old new now local from bytes content told other all decides)
-
--- ---- frames, of which nothing is decided
-
-undecided : (answer : Answer) → decided_unless answer None ≡ None
-undecided NoMemory = refl
-undecided answer = refl
-
-none_decided : (held : Held) (from : Address) (sent : List Sent) (answer : Answer) →
-    DecidesUnless held (λ e. content_decided e from (Ok (frames sent))) answer None
-none_decided held from sent answer = record { on = λ e stands. sym (undecided answer) }
-
-pub frames_come : (old new : Held) (now : ℕ) (local from : Address) (bytes : List ℕ) (sent : List Sent) (answer : Answer) →
-    packet_of bytes ≡ Ok (frames sent) → ServesAs old new (λ e. on_packet e now local from (Ok (frames sent))) answer →
-    Comes old new now local from bytes (CameTold (record { answer = answer; decision = None }))
-frames_come old new now local from bytes sent answer is serves =
-    comes_told old new now local from bytes (frames sent) (record { answer = answer; decision = None }) tt is serves
-    (none_decided old from sent answer)
-
-told_frames : (older : State) (old new : Held) (now : ℕ) (local from : Address) (bytes : List ℕ) (sent : List Sent) (told : Told) →
-    ComesSeenAs older old new now local from bytes (Ok (frames sent)) (CameTold told) →
-    ComesSeenAs older old new now local from bytes (Ok (frames sent)) (CameTold (record { answer = told.answer; decision = None }))
-told_frames older old new now local from bytes sent told comes = (comes.0, none_decided (under old older) from sent told.answer)
-
-pub frames_seen_come : (older : State) (old new : Held) (now : ℕ) (local from : Address) (bytes : List ℕ) (sent : List Sent) (told : Told) →
-    packet_of bytes ≡ Ok (frames sent) → ComesSeen older old new now local from bytes (CameTold told) →
-    ComesSeen older old new now local from bytes (CameTold (record { answer = told.answer; decision = None }))
-frames_seen_come older old new now local from bytes sent told is comes =
-    subst (λ (read : Result Content BadPacket). ComesSeenAs older old new now local from bytes read (CameTold (record { answer = told.answer; decision = None })))
-    (sym is)
-    (told_frames older old new now local from bytes sent told
-    (subst (λ (read : Result Content BadPacket). ComesSeenAs older old new now local from bytes read (CameTold told)) is comes))
-
--- they are no SETUP
-pub frames_no_setup : (older : State) (old new : Held) (now : ℕ) (local from : Address) (bytes : List ℕ) (sent : List Sent) (fields : Setup) →
-    packet_of bytes ≡ Ok (frames sent) → ComesSeen older old new now local from bytes (CameSetUp fields) → ⊥
-frames_no_setup older old new now local from bytes sent fields is comes =
-    subst (λ (read : Result Content BadPacket). ComesSeenAs older old new now local from bytes read (CameSetUp fields)) is comes
+    subst (λ (read : Result Content BadPacket). ComesAs shown old new now local from bytes read (CameAnswered told)) (sym is)
+    (comes_as shown old new now local from bytes content told other all decides)
 
 -- as it was read
 pub read_as : (bytes : List ℕ) (packet : FramePacket) (read : Result FramePacket BadPacket) → Equals content read (packet_of bytes) → read ≡ Ok packet →

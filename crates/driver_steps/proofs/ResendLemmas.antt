@@ -1,35 +1,34 @@
 -- What is sent again on a NAK comes from the live log, where the policy allows it.
 use Rattle.std.proofs.Common.{◌≡◌, ℕ, ℤ, ◌==◌, not, Bool, true, false, cond, List, [], ◌∷◌, map, find, Option, Some, None, Result, Ok, Err, refl, sym, ap, subst, ◌∙◌}
 use Rattle.std.proofs.lemmas.Bool.{and_parts, cond_both, eq-eqb}
-use Rattle.any_log.specs.declared.asking.NakReply.{NakReply}
-use Rattle.any_log.specs.Asking.{gate_behind, nak_reply, reply_by}
-use Rattle.any_log.specs.Held.{Made}
-use Rattle.any_log.specs.Whole.{AnyWhole, whole, rebuilt}
+use Rattle.log_traffic.specs.declared.asking.NakReply.{NakReply}
+use Rattle.log_traffic.specs.Asking.{gate_behind, nak_reply, reply_by}
+use Rattle.log_traffic.specs.Held.{Made}
+use Rattle.log_traffic.specs.Whole.{AnyWhole, whole, rebuilt}
 use Rattle.channel_uri.specs.declared.address.Address.{Address}
-use Rattle.driver_core.specs.declared.event.Event.{Event}
-use Rattle.driver_core.specs.declared.event.Event.TheVariants.{Setup as SetUp}
-use Rattle.driver_core.specs.declared.image_request.Astray.{Astray}
-use Rattle.driver_core.specs.declared.outcome.Outcome.{Outcome}
-use Rattle.driver_core.specs.declared.outcome.Response.{Response}
-use Rattle.driver_core.specs.declared.outcome.Response.TheVariants as response
-use Rattle.driver_core.specs.declared.replies.Message.{Message}
-use Rattle.driver_core.specs.declared.settings.Settings.{Settings}
+use Rattle.driver_core.specs.declared.state.event.Event.{Event}
+use Rattle.driver_core.specs.declared.state.event.Event.TheVariants.{Setup as SetUp}
+use Rattle.driver_core.specs.declared.asked.image_request.Astray.{Astray}
+use Rattle.driver_core.specs.declared.state.outcome.Outcome.{Outcome}
+use Rattle.driver_core.specs.declared.state.outcome.Response.{Response}
+use Rattle.driver_core.specs.declared.state.outcome.Response.TheVariants as response
+use Rattle.driver_core.specs.declared.state.replies.Message.{Message}
+use Rattle.driver_core.specs.declared.state.settings.Settings.{Settings}
 use Rattle.driver_core.specs.Conduct.{conduct}
-use Rattle.driver_core.specs.ImageRequests.{image_for}
 use Rattle.driver_core.specs.PublicationRequests.{is_sent_as, publication_at, joining_of, resend_decision, resending_of, resent_by}
 use Rattle.driver_core.specs.Renewal.{source_at}
 use Rattle.driver_core.proofs.VerdictLemmas.{by_policy}
-use Rattle.driver_steps.specs.declared.answer.Answer.{Answer}
-use Rattle.driver_steps.specs.declared.answer.Answer.TheVariants.{Dropped, Resent}
-use Rattle.driver_steps.specs.declared.cause.Cause.TheVariants.{Denied}
-use Rattle.driver_steps.specs.Answers.{answered_by, answer_of}
-use Rattle.driver_steps.specs.Ends.{RunEnd, conducted, inputs_of, log_at, moved_on, on_asked, on_image, on_log, on_packet, on_told}
-use Rattle.driver_steps.specs.Hearing.{answer_asked, answer_heard, nak_move, status_move}
+use Rattle.log_steps.specs.declared.answer.Answer.{Answer}
+use Rattle.log_steps.specs.declared.answer.Answer.TheVariants.{Dropped, Resent}
+use Rattle.log_steps.specs.declared.cause.Cause.TheVariants.{Denied}
+use Rattle.log_steps.specs.Answers.{answered_by, answer_of}
+use Rattle.driver_steps.specs.Ends.{RunEnd, conducted, image_by, inputs_of, log_at, moved_on, on_asked, on_image, on_log, on_packet, on_told}
+use Rattle.log_steps.specs.Hearing.{answer_asked, answer_heard, nak_move, status_move}
 use Rattle.driver_steps.specs.Laws.{made_as, made_for, stays}
-use Rattle.driver_steps.specs.Moves.{WholeLog, Move, answered}
-use Rattle.driver_steps.specs.Receiving.{beat_move, receive_move, unheard}
+use Rattle.log_steps.specs.Moves.{WholeLog, Move, answered}
+use Rattle.log_steps.specs.Receiving.{beat_move, receive_move, unheard}
 use Rattle.driver_steps.specs.ResendLaws.{IsResentFrom, ResendsAreDecided, ResendsComeFromTheLiveLog, resend_question, resend_verdict}
-use Rattle.driver_steps.proofs.HearingLemmas.{status_told}
+use Rattle.log_steps.proofs.HearingLemmas.{status_told}
 use Rattle.driver_steps.proofs.DecisionLemmas.{IsAppended, IsForPublication, appended_for, left_by, log_moves, made_at, published_made, stays_left}
 use Rattle.driver_steps.proofs.FollowLemmas.{Follows, ends_follow}
 use Rattle.driver_steps.proofs.LiveLemmas.{is_allowed}
@@ -39,16 +38,16 @@ use Rattle.frame_codec.specs.declared.fault.BadPacket.{BadPacket}
 use Rattle.frame_codec.specs.declared.nak.Nak.{Nak}
 use Rattle.frame_codec.specs.declared.status_message.StatusMessage.{StatusMessage}
 use Rattle.frame_codec.specs.Datagram.{Content, frames, beat, nak, status, setup, packet_of}
-use Rattle.driver_core.specs.declared.publication_request.JoinRequest.{JoinRequest}
+use Rattle.driver_core.specs.declared.asked.publication_request.JoinRequest.{JoinRequest}
 use Rattle.policy_core.specs.declared.decision.Decision.{Decision}
-use Rattle.publication_sender.specs.declared.hearing.StatusAnswer.{StatusAnswer}
-use Rattle.publication_sender.specs.declared.hearing.StatusAnswer.TheVariants as heard
-use Rattle.publication_sender.specs.Resending.{asking_in, resent_of}
+use Rattle.log_traffic.specs.declared.hearing.StatusAnswer.{StatusAnswer}
+use Rattle.log_traffic.specs.declared.hearing.StatusAnswer.TheVariants as heard
+use Rattle.log_traffic.specs.Resending.{asking_in, resent_of}
 use Rattle.retransmit_gate.specs.declared.answer.Answer.{Answer as Word}
 use Rattle.retransmit_gate.specs.declared.answer.Answer.TheVariants as words
 use Rattle.retransmit_gate.specs.Gate.{Resends}
 use Rattle.retransmit_gate.specs.ResendLaws.{answer_to}
-use Rattle.stream_registry.specs.declared.row.Source.{Source}
+use Rattle.stream_registry.specs.declared.row.LogRow.{LogRow}
 use Rattle.stream_registry.specs.Origins.{is_published}
 use Rattle.term_log.specs.Whole.{Whole}
 
@@ -140,7 +139,7 @@ log_resends now from to decision fields gate (whole w) datagrams =
       datagrams_are = given.1;
     })
 
-found_resends : (e : RunEnd) (now : ℕ) (from to : Address) (fields : Nak) (datagrams : List (List ℕ)) (publication : Source)
+found_resends : (e : RunEnd) (now : ℕ) (from to : Address) (fields : Nak) (datagrams : List (List ℕ)) (publication : LogRow)
     (o : Option WholeLog) → publication_at e.registry fields.session_id fields.stream_id ≡ Some publication →
     log_at e.logs publication.number ≡ o →
     Resent to datagrams
@@ -163,7 +162,7 @@ found_resends e now from to fields datagrams publication (Some log) published fo
       datagrams_are = given.datagrams_are;
     }
 
-asked_resends : (e : RunEnd) (now : ℕ) (from to : Address) (fields : Nak) (datagrams : List (List ℕ)) (o : Option Source) →
+asked_resends : (e : RunEnd) (now : ℕ) (from to : Address) (fields : Nak) (datagrams : List (List ℕ)) (o : Option LogRow) →
     publication_at e.registry fields.session_id fields.stream_id ≡ o →
     Resent to datagrams ≡ (on_asked e now from fields (resent_by e.registry from o)).answer →
     IsResentFrom e from fields to datagrams
@@ -181,18 +180,18 @@ none_other : (e : RunEnd) (from to : Address) (read : Result Content BadPacket) 
 none_other e from to read datagrams answer other is = absurd (subst IsOther (sym is) other)
 
 packet_resends : (e : RunEnd) (now : ℕ) (local from to : Address) (datagrams : List (List ℕ)) (read : Result Content BadPacket) →
-    Resent to datagrams ≡ (on_packet e now local from read).answer → IsResent e from read to datagrams
+    Resent to datagrams ≡ (on_packet e.registry e now local from read).answer → IsResent e from read to datagrams
 unfolding resending_of
 packet_resends e now local from to datagrams (Err fault) is = absurd (cc is)
 packet_resends e now local from to datagrams (Ok (frames [])) is = absurd (cc is)
 packet_resends e now local from to datagrams (Ok (frames (frame ∷ later))) is =
     none_other e from to (Ok (frames (frame ∷ later))) datagrams _
     (image_other e (receive_move now (frame ∷ later))
-    (image_for e.registry local from frame.header.place.session_id frame.header.place.stream_id) (λ log. tt)) is
+    (image_by e.registry e local from frame.header.place) (λ log. tt)) is
 packet_resends e now local from to datagrams (Ok (beat header)) is =
     none_other e from to (Ok (beat header)) datagrams _
     (image_other e (beat_move now header.place)
-    (image_for e.registry local from header.place.session_id header.place.stream_id) (λ log. tt)) is
+    (image_by e.registry e local from header.place) (λ log. tt)) is
 packet_resends e now local from to datagrams (Ok (setup fields)) is =
     none_other e from to (Ok (setup fields)) datagrams _ (event_other e (SetUp now local from fields)) is
 packet_resends e now local from to datagrams (Ok (nak fields)) is = (
@@ -206,25 +205,25 @@ packet_resends e now local from to datagrams (Ok (status fields)) is =
 
 -- ---- the log of the publication
 
-numbered_by : (passes here : Bool) (first log : Source) (found at : Option Source) → (first.number == log.number) ≡ here →
-    (found ≡ Some log → (one : Source) × (at ≡ Some one)) → cond passes (Some first) found ≡ Some log →
-    (one : Source) × (cond here (Some first) at ≡ Some one)
+numbered_by : (passes here : Bool) (first log : LogRow) (found at : Option LogRow) → (first.number == log.number) ≡ here →
+    (found ≡ Some log → (one : LogRow) × (at ≡ Some one)) → cond passes (Some first) found ≡ Some log →
+    (one : LogRow) × (cond here (Some first) at ≡ Some one)
 numbered_by passes true first log found at same rest is = (first, refl)
 numbered_by true false first log found at same rest is =
     let this : first ≡ log = cc is in
-    let clash : true ≡ false = sym (eq-eqb first.number log.number (ap (λ (l : Source). l.number) this)) ∙ same in
+    let clash : true ≡ false = sym (eq-eqb first.number log.number (ap (λ (l : LogRow). l.number) this)) ∙ same in
     absurd (cc clash)
 numbered_by false false first log found at same rest is = rest is
 
 -- some log is found by the number of one that is there
-numbered : (test : Source → Bool) (logs : List Source) (log : Source) → find test logs ≡ Some log →
-    (one : Source) × (source_at logs log.number ≡ Some one)
+numbered : (test : LogRow → Bool) (logs : List LogRow) (log : LogRow) → find test logs ≡ Some log →
+    (one : LogRow) × (source_at logs log.number ≡ Some one)
 numbered test [] log is = absurd (cc is)
 numbered test (first ∷ logs) log is =
     numbered_by (test first) (first.number == log.number) first log (find test logs) (source_at logs log.number) refl
     (numbered test logs log) is
 
-live_by : (b : Bool) (first : WholeLog) (source one : Source) (logs : Option WholeLog) (sources : Option Source) →
+live_by : (b : Bool) (first : WholeLog) (source one : LogRow) (logs : Option WholeLog) (sources : Option LogRow) →
     (sources ≡ Some one → (log : WholeLog) × (logs ≡ Some log)) → cond b (Some source) sources ≡ Some one →
     (log : WholeLog) × (cond b (Some first) logs ≡ Some log)
 live_by true first source one logs sources rest is = (first, refl)
@@ -239,7 +238,7 @@ others_of [] = []
 others_of (made ∷ others) = others
 
 -- each live source has its log
-live_at : (settings : Settings) (logs : List WholeLog) (sources : List Source) (number : ℕ) (one : Source) →
+live_at : (settings : Settings) (logs : List WholeLog) (sources : List LogRow) (number : ℕ) (one : LogRow) →
     map made_for logs ≡ map (made_as settings) sources → source_at sources number ≡ Some one →
     (log : WholeLog) × (log_at logs number ≡ Some log)
 unfolding first_number others_of
@@ -252,7 +251,7 @@ live_at settings (first ∷ logs) (source ∷ sources) number one made is =
     (live_at settings logs sources number one others)
     (ap (λ (n : ℕ). cond (n == number) (Some source) (source_at sources number)) same ∙ is)
 
-sent_published : (session stream : ℤ) (log : Source) → is_sent_as session stream log ≡ true → is_published log ≡ true
+sent_published : (session stream : ℤ) (log : LogRow) → is_sent_as session stream log ≡ true → is_published log ≡ true
 sent_published session stream log is =
     let first = and_parts _ _ is in
     let second = and_parts _ _ first.0 in
@@ -260,16 +259,16 @@ sent_published session stream log is =
     third.0
 
 -- the log of a publication is open, and one of frames that were appended
-record IsLive (e : RunEnd) (publication : Source) : Type 0 where
+record IsLive (e : RunEnd) (publication : LogRow) : Type 0 where
   log : WholeLog
   found : log_at e.logs publication.number ≡ Some log
   appended : IsAppended log
 
-publication_live : (e : RunEnd) (session stream : ℤ) (publication : Source) → Follows e →
+publication_live : (e : RunEnd) (session stream : ℤ) (publication : LogRow) → Follows e →
     publication_at e.registry session stream ≡ Some publication → IsLive e publication
 publication_live e session stream publication follows is =
     let settings : Settings = e.registry.settings in
-    let sources : List Source = e.registry.streams.sources in
+    let sources : List LogRow = e.registry.streams.sources in
     let of : Found (λ log. is_published log ≡ true) 0 e.registry.last_number sources publication =
     found_only (λ log. is_published log ≡ true) (is_sent_as session stream) 0 e.registry.last_number sources publication
     (sent_published session stream) follows.sound.numbered is in
@@ -298,18 +297,18 @@ denied_move : (now : ℕ) (from : Address) (decision : Decision) (fields : Nak) 
     move_on now from decision fields log (whole w) ≡ answered log (Dropped (Denied decision.verdict))
 denied_move now from decision fields log w denies = rw denies refl
 
-packet_denied : (e : RunEnd) (now : ℕ) (local from : Address) (bytes : List ℕ) (fields : Nak) (publication : Source) →
+packet_denied : (e : RunEnd) (now : ℕ) (local from : Address) (bytes : List ℕ) (fields : Nak) (publication : LogRow) →
     Follows e → packet_of bytes ≡ Ok (nak fields) →
     publication_at e.registry fields.session_id fields.stream_id ≡ Some publication →
     (resend_verdict e.registry from publication).allow ≡ false →
-    on_packet e now local from (packet_of bytes) ≡ stays e (Dropped (Denied (resend_verdict e.registry from publication)))
+    on_packet e.registry e now local from (packet_of bytes) ≡ stays e (Dropped (Denied (resend_verdict e.registry from publication)))
 unfolding resending_of
 packet_denied e now local from bytes fields publication follows read published denies =
     let decision : Decision = resend_decision e.registry from publication in
     let live = publication_live e fields.session_id fields.stream_id publication follows published in
     let log : WholeLog = live.log in
-    ap (on_packet e now local from) read
-    ∙ ap (λ (o : Option Source). on_asked e now from fields (resent_by e.registry from o)) published
+    ap (on_packet e.registry e now local from) read
+    ∙ ap (λ (o : Option LogRow). on_asked e now from fields (resent_by e.registry from o)) published
     ∙ log_moves e publication.number (nak_move now from decision fields) unheard log live.found
     ∙ ap (λ (w : AnyWhole). left_by e publication.number (move_on now from decision fields log w)) live.appended.1
     ∙ ap (left_by e publication.number) (denied_move now from decision fields log live.appended.0 denies)

@@ -1,37 +1,30 @@
 -- Runs are put together of steps.
 use Rattle.std.proofs.Common.{◌≡◌, ℕ, ◌==◌, not, nat_lt, Bool, true, false, List, length, Option, Some, None, if◌then◌else◌, refl}
 use Rattle.std.specs.Option.{option_map}
-use Rattle.any_log.specs.Whole.{AnyWhole, whole, rebuilt}
-use Rattle.driver_core.specs.declared.event.Event.{Event}
-use Rattle.driver_core.specs.declared.log_request.LogRequest.{LogRequest}
-use Rattle.driver_core.specs.declared.outcome.Outcome.{Outcome}
-use Rattle.driver_core.specs.declared.outcome.Response.{Response}
-use Rattle.driver_core.specs.declared.outcome.Response.TheVariants as response
-use Rattle.driver_core.specs.declared.replies.Message.{Message}
+use Rattle.log_traffic.specs.Whole.{AnyWhole, whole, rebuilt}
+use Rattle.driver_core.specs.declared.asked.log_request.LogRequest.{LogRequest}
 use Rattle.driver_core.specs.State.{State}
-use Rattle.driver_steps.specs.declared.answer.Answer.{Answer}
-use Rattle.driver_steps.specs.declared.answer.Answer.TheVariants.{NoMemory, Attached, Full, Stopped, PolicyInForce, PolicyFull, Imaged, Unimaged, Dropped, Replies, Offered as OfferedAs, Polled, Gone as IsGone, Counters, Value as ValueIs, Denied, UnknownCounter, WrongClient, BadStep, Received, Heard, Limited, Elicited, Idle, Sent as SentTo, Resent, Reported}
-use Rattle.driver_steps.specs.declared.step.Step.{Step}
-use Rattle.driver_steps.specs.declared.step.Step.TheVariants.{Conductor}
+use Rattle.log_steps.specs.declared.answer.Answer.{Answer}
+use Rattle.log_steps.specs.declared.answer.Answer.TheVariants.{NoMemory, Attached, Full, Stopped, PolicyInForce, PolicyFull, Imaged, Unimaged, Dropped, Replies, Offered as OfferedAs, Polled, Gone as IsGone, Counters, Value as ValueIs, Denied, UnknownCounter, WrongClient, BadStep, Received, Heard, Limited, Elicited, Idle, Sent as SentTo, Resent, Reported}
 use Rattle.channel_uri.specs.declared.address.Address.{Address}
-use Rattle.any_log.specs.declared.asking.NakReply.{NakReply}
-use Rattle.any_log.specs.declared.asking.NakReply.TheVariants as replies
-use Rattle.driver_steps.specs.Hearing.{answer_asked, answer_heard}
-use Rattle.any_log.specs.Reporting.{report_of}
-use Rattle.driver_steps.specs.Reporting.{answer_reported, report_by}
-use Rattle.driver_steps.specs.Sending.{answer_sent, pace_of, send_by, standing_of}
-use Rattle.any_log.specs.Sending.{turn_of}
-use Rattle.driver_core.specs.declared.send_request.Outlet.{Outlet}
+use Rattle.log_traffic.specs.declared.asking.NakReply.{NakReply}
+use Rattle.log_traffic.specs.declared.asking.NakReply.TheVariants as replies
+use Rattle.log_steps.specs.Hearing.{answer_asked, answer_heard}
+use Rattle.log_traffic.specs.Reporting.{report_of}
+use Rattle.log_steps.specs.Reporting.{answer_reported, report_by}
+use Rattle.log_steps.specs.Sending.{answer_sent, pace_of, send_by, standing_of}
+use Rattle.log_traffic.specs.Sending.{turn_of}
+use Rattle.driver_core.specs.declared.asked.send_request.Outlet.{Outlet}
 use Rattle.driver_core.specs.SendRequests.{outlets_of}
-use Rattle.publication_sender.specs.declared.hearing.StatusAnswer.{StatusAnswer}
-use Rattle.publication_sender.specs.declared.hearing.StatusAnswer.TheVariants as statuses
-use Rattle.driver_steps.specs.Answers.{answered_by, answer_of}
-use Rattle.driver_steps.specs.Ends.{RunEnd, Moved, IsAnswerOf, after_by, moved, moved_on, on_log, log_at, conducted}
-use Rattle.driver_steps.specs.Held.{HeldLogs}
-use Rattle.driver_steps.specs.Memory.{GivesFirst, HasMemoryBy, is_listed, takes_memory}
-use Rattle.driver_steps.specs.Moves.{WholeLog, Move, MovesFirst, offer_to, offer_under, poll_under}
-use Rattle.driver_steps.specs.Standing.{StandAll, Held, StandsForEnd, Takes, Serves, ServesAs}
-use Rattle.driver_steps.specs.Decided.{decided_unless}
+use Rattle.log_traffic.specs.declared.hearing.StatusAnswer.{StatusAnswer}
+use Rattle.log_traffic.specs.declared.hearing.StatusAnswer.TheVariants as statuses
+use Rattle.driver_steps.specs.Ends.{RunEnd, Moved, IsAnswerOf, after_by, moved_on, on_log, log_at}
+use Rattle.driver_steps.specs.OpenLogs.{HeldLogs, GivesFirst, MovesFirst}
+use Rattle.driver_steps.specs.StepMemory.{HasMemoryBy}
+use Rattle.log_steps.specs.Memory.{is_listed}
+use Rattle.log_steps.specs.Moves.{WholeLog, Move, offer_to, offer_under, poll_under}
+use Rattle.driver_steps.specs.Standing.{StandAll, Held, StandsForEnd, ServesAs}
+use Rattle.driver_steps.specs.EndDecisions.{decided_unless}
 use Rattle.policy_core.specs.declared.decision.Decision.{Decision}
 use Rattle.driver_steps.proofs.StandLemmas.{gives_first, moves_first}
 use Rattle.policy_core.specs.declared.verdict.Verdict.{Verdict}
@@ -166,9 +159,6 @@ record DoesAs (new : Held) (what : Moved) (answer : Answer) : Type 0 where
   given : answer ≡ what.answer
   stands : StandsForEnd new what.after
 
-abbrev DoesStep : Held → RunEnd → Step → Answer → Type 0
-DoesStep new e step answer = DoesAs new (moved e step) answer
-
 served_as : (old new : Held) (what : RunEnd → Moved) (answer : Answer) →
     ((e : RunEnd) → StandsForEnd old e → DoesAs new (what e) answer) → ServesAs old new what answer
 served_as old new what answer does =
@@ -179,38 +169,6 @@ served_as old new what answer does =
           (told'.0, rw told'.1 done.stands);
       without_memory = λ e stands. told_has (is_listed (what e).answer) answer (does e stands).is_told;
     }
-
-served : (old new : Held) (step : Step) (answer : Answer) → ((e : RunEnd) → StandsForEnd old e → DoesStep new e step answer) →
-    Serves old new step answer
-served old new step answer does =
-    record {
-      on = λ e stands.
-          let done = does e stands in
-          let told' = told e (moved e step) answer done.is_told done.given in
-          (told'.0, rw told'.1 done.stands);
-      without_memory = λ e stands. told_has (takes_memory e step) answer (does e stands).is_told;
-    }
-
-answered_told : (r : Response) (replies : List Message) → IsTold (answered_by r replies)
-answered_told response.Nothing replies = tt
-answered_told (response.Attached number) replies = tt
-answered_told response.Full replies = tt
-answered_told response.Stopped replies = tt
-answered_told (response.PolicyInForce epoch) replies = tt
-answered_told response.PolicyFull replies = tt
-answered_told (response.Imaged number) replies = tt
-answered_told (response.Dropped fault) replies = tt
-
--- ---- an event
-
--- an event that was taken serves the conductor's step
-pub event_served : (old new : Held) (event : Event) (outcome : Outcome) → Takes old new event outcome →
-    Serves old new (Conductor event) (answer_of outcome)
-unfolding answer_of conducted
-event_served old new event outcome takes =
-    served old new (Conductor event) (answer_of outcome) (λ e stands.
-    let taken = takes.on e stands in
-    record { is_told = answered_told outcome.response outcome.replies; given = rw taken.0 refl; stands = taken.1 })
 
 -- ---- a step on one log
 

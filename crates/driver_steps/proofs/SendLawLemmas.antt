@@ -2,36 +2,36 @@
 use Rattle.std.proofs.Common.{◌≡◌, ℕ, Bool, true, false, cond, List, map, Option, Some, None, refl, sym, ap, ◌∙◌}
 use Rattle.std.proofs.lemmas.Bool.{and_parts}
 use Rattle.std.specs.Option.{is_some, option_map}
-use Rattle.any_log.specs.Held.{for_publication}
-use Rattle.any_log.specs.Sending.{after_turn, turn_of}
-use Rattle.any_log.specs.Whole.{AnyWhole, whole, rebuilt, made_for as made_any}
+use Rattle.log_traffic.specs.Held.{for_publication}
+use Rattle.log_traffic.specs.Sending.{after_turn, turn_of}
+use Rattle.log_traffic.specs.Whole.{AnyWhole, whole, rebuilt, made_for as made_any}
 use Rattle.channel_uri.specs.declared.media.Media.{Media}
 use Rattle.channel_uri.specs.declared.media.Media.TheVariants.{Udp, Ipc, Counter}
 use Rattle.destinations.specs.Destinations.{of}
-use Rattle.driver_core.specs.declared.send_request.Outlet.{Outlet}
-use Rattle.driver_core.specs.declared.settings.Settings.{Settings}
+use Rattle.driver_core.specs.declared.asked.send_request.Outlet.{Outlet}
+use Rattle.driver_core.specs.declared.state.settings.Settings.{Settings}
 use Rattle.driver_core.specs.Renewal.{source_at}
 use Rattle.driver_core.specs.SendRequests.{is_sent, learnt_outlet, lingers_by, outlet_of, outlets_by, outlets_of, sending_of}
 use Rattle.driver_core.specs.State.{State}
 use Rattle.driver_core.proofs.VerdictLemmas.{by_policy}
-use Rattle.driver_steps.specs.declared.answer.Answer.TheVariants.{Gone, Idle, Sent}
+use Rattle.log_steps.specs.declared.answer.Answer.TheVariants.{Gone, Idle, Sent}
 use Rattle.driver_steps.specs.declared.step.Step.TheVariants.{Send}
 use Rattle.driver_steps.specs.Ends.{RunEnd, log_at, moved, moved_on, on_log}
-use Rattle.driver_steps.specs.Idents.{ident_of, kind_over, made_by, made_of}
+use Rattle.log_steps.specs.Idents.{ident_of, kind_over, made_by, made_of}
 use Rattle.driver_steps.specs.Laws.{LogsFollow, stays}
-use Rattle.driver_steps.specs.Moves.{Move, WholeLog}
-use Rattle.driver_steps.specs.Sending.{answer_sent, expired, pace_of, send_by, send_move, standing_of}
+use Rattle.log_steps.specs.Moves.{Move, WholeLog}
+use Rattle.log_steps.specs.Sending.{answer_sent, expired, pace_of, send_by, send_move, standing_of}
 use Rattle.driver_steps.specs.SendLaws.{SendIsDecided, SendsAreDecided, SendsAreGrantedExactly, cut_by_log, idle_by_log, learnt_question, send_question}
 use Rattle.learnt_addresses.specs.declared.learnt_address.LearntAddress.{LearntAddress}
 use Rattle.driver_steps.proofs.DecisionLemmas.{left_by, log_moves, made_at, stays_left}
 use Rattle.driver_steps.proofs.FollowLemmas.{logs_follow}
 use Rattle.driver_steps.proofs.FoundLemmas.{found_source}
-use Rattle.publication_sender.specs.declared.cutting.DatagramKind.{DatagramKind}
-use Rattle.publication_sender.specs.declared.cutting.Pace.{Pace}
-use Rattle.publication_sender.specs.Cutting.{after_due, bytes_as, cut_of, datagram_of, due_of}
+use Rattle.log_traffic.specs.declared.cutting.DatagramKind.{DatagramKind}
+use Rattle.log_traffic.specs.declared.cutting.Pace.{Pace}
+use Rattle.log_traffic.specs.Cutting.{after_due, bytes_as, cut_of, datagram_of, due_of}
 use Rattle.stream_registry.specs.declared.row.Origin.{Origin}
 use Rattle.stream_registry.specs.declared.row.Origin.TheVariants.{Published, Remote}
-use Rattle.stream_registry.specs.declared.row.Source.{Source}
+use Rattle.stream_registry.specs.declared.row.LogRow.{LogRow}
 use Rattle.stream_registry.specs.Origins.{is_published, is_published_by, lingering_since}
 use Rattle.stream_registry.specs.Places.{is_dynamic, is_udp as is_udp_media}
 use Rattle.term_log.specs.declared.ident.Ident.{Ident}
@@ -49,7 +49,7 @@ same_ident : (i j : Ident) → for_publication i ≡ for_publication j → i ≡
 same_ident i j is = cc is
 
 -- it is one of frames that were appended, of that kind
-sent_made : (settings : Settings) (log : Source) (origin : Origin) (w : AnyWhole) → is_published_by origin ≡ true →
+sent_made : (settings : Settings) (log : LogRow) (origin : Origin) (w : AnyWhole) → is_published_by origin ≡ true →
     made_any w ≡ made_by settings log origin → is_udp_media log.channel.media ≡ true →
     (frames : Whole) × (w ≡ whole frames) × (is_udp frames.ident.kind ≡ true)
 sent_made settings log (Published exclusive since) (whole frames) published made udp =
@@ -59,22 +59,22 @@ sent_made settings log (Remote address initial_term join) w published made udp =
 
 -- ---- what the registry says
 
-lets : (s : State) (source : ℕ) (publication : Source) → source_at s.streams.sources source ≡ Some publication →
+lets : (s : State) (source : ℕ) (publication : LogRow) → source_at s.streams.sources source ≡ Some publication →
     is_sent publication ≡ true → sending_of s source ≡ Some (is_some (lingering_since publication))
 unfolding sending_of
 lets s source publication is sends = ap lingers_by is ∙ ap (λ (b : Bool). cond b (Some (is_some (lingering_since publication))) None) sends
 
-goes : (s : State) (source : ℕ) (publication : Source) → source_at s.streams.sources source ≡ Some publication →
+goes : (s : State) (source : ℕ) (publication : LogRow) → source_at s.streams.sources source ≡ Some publication →
     (learnt : List LearntAddress) → outlets_of s learnt source ≡ outlets_by s learnt (Some publication)
 unfolding outlets_of
 goes s source publication is learnt = ap (outlets_by s learnt) is
 
-pub outlets_named : (s : State) (publication : Source) (learnt : List LearntAddress) → is_dynamic publication.channel ≡ false →
+pub outlets_named : (s : State) (publication : LogRow) (learnt : List LearntAddress) → is_dynamic publication.channel ≡ false →
     outlets_by s learnt (Some publication) ≡ map (outlet_of s publication) (of s.destinations.rows publication.number)
 outlets_named s publication learnt by_name =
     ap (λ (b : Bool). cond b (map (learnt_outlet s publication) learnt) (map (outlet_of s publication) (of s.destinations.rows publication.number))) by_name
 
-pub outlets_learnt : (s : State) (publication : Source) (learnt : List LearntAddress) → is_dynamic publication.channel ≡ true →
+pub outlets_learnt : (s : State) (publication : LogRow) (learnt : List LearntAddress) → is_dynamic publication.channel ≡ true →
     outlets_by s learnt (Some publication) ≡ map (learnt_outlet s publication) learnt
 outlets_learnt s publication learnt dynamic =
     ap (λ (b : Bool). cond b (map (learnt_outlet s publication) learnt) (map (outlet_of s publication) (of s.destinations.rows publication.number))) dynamic
@@ -151,7 +151,7 @@ turn_sent e now source lingers log frames outlets bytes found some =
 
 -- ---- the law
 
-send_there : (e : RunEnd) → LogsFollow e → (now source : ℕ) (publication : Source) (log : WholeLog) →
+send_there : (e : RunEnd) → LogsFollow e → (now source : ℕ) (publication : LogRow) (log : WholeLog) →
     source_at e.registry.streams.sources source ≡ Some publication → is_sent publication ≡ true → log_at e.logs source ≡ Some log →
     (frames : Whole) × (log.whole ≡ whole frames) × SendIsDecided e now publication log frames (moved e (Send now source))
 send_there e follows now source publication log is sends found =

@@ -3,14 +3,14 @@ use Rattle.std.proofs.Common.{◌≡◌, ℕ, ◌<◌, ◌≤◌, Bool, true, fa
 use Rattle.std.specs.List.{All}
 use Rattle.std.proofs.lemmas.List.Elements.{All-cons, All-nil}
 use Rattle.driver_core.specs.Soundness.{Ascend}
-use Rattle.stream_registry.specs.declared.row.Source.{Source}
+use Rattle.stream_registry.specs.declared.row.LogRow.{LogRow}
 
 -- a log has that property, if it is of that number
-abbrev pub IsBy : (Source → Type 0) → ℕ → Source → Type 0
+abbrev pub IsBy : (LogRow → Type 0) → ℕ → LogRow → Type 0
 IsBy Q number log = log.number ≡ number → Q log
 
 -- the last number is not below
-above : (before last : ℕ) (logs : List Source) → Ascend before last logs → before ≤ last
+above : (before last : ℕ) (logs : List LogRow) → Ascend before last logs → before ≤ last
 above before last [] up = up
 above before last (log ∷ logs) up =
     let low = up.0 in
@@ -18,7 +18,7 @@ above before last (log ∷ logs) up =
     omega (arith, low, high)
 
 -- no log has a number that is past the last
-pub none_past : (Q : Source → Type 0) (number before last : ℕ) (logs : List Source) → last < number → Ascend before last logs →
+pub none_past : (Q : LogRow → Type 0) (number before last : ℕ) (logs : List LogRow) → last < number → Ascend before last logs →
     All (IsBy Q number) logs
 none_past Q number before last [] past up = All-nil (IsBy Q number)
 none_past Q number before last (log ∷ logs) past up =
@@ -27,7 +27,7 @@ none_past Q number before last (log ∷ logs) past up =
     (none_past Q number log.number last logs past up.1)
 
 -- no log has a number that is not past those before it
-none_below : (Q : Source → Type 0) (number before last : ℕ) (logs : List Source) → number ≤ before → Ascend before last logs →
+none_below : (Q : LogRow → Type 0) (number before last : ℕ) (logs : List LogRow) → number ≤ before → Ascend before last logs →
     All (IsBy Q number) logs
 none_below Q number before last [] low up = All-nil (IsBy Q number)
 none_below Q number before last (log ∷ logs) low up =
@@ -36,13 +36,13 @@ none_below Q number before last (log ∷ logs) low up =
     (none_below Q number log.number last logs (omega (arith, higher, low)) up.1)
 
 -- the log of these that passes the test, and has no other's number
-pub record Found (Q : Source → Type 0) (before last : ℕ) (logs : List Source) (log : Source) : Type 0 where
+pub record Found (Q : LogRow → Type 0) (before last : ℕ) (logs : List LogRow) (log : LogRow) : Type 0 where
   pub higher : before < log.number
   pub drawn : log.number ≤ last
   pub only : All (IsBy Q log.number) logs
 
-found_step : (Q : Source → Type 0) (test : Source → Bool) (before last : ℕ) (first log : Source) (logs : List Source) (b : Bool) →
-    ((one : Source) → test one ≡ true → Q one) → test first ≡ b → Ascend before last (first ∷ logs) →
+found_step : (Q : LogRow → Type 0) (test : LogRow → Bool) (before last : ℕ) (first log : LogRow) (logs : List LogRow) (b : Bool) →
+    ((one : LogRow) → test one ≡ true → Q one) → test first ≡ b → Ascend before last (first ∷ logs) →
     (find test logs ≡ Some log → Found Q first.number last logs log) → cond b (Some first) (find test logs) ≡ Some log →
     Found Q before last (first ∷ logs) log
 found_step Q test before last first log logs true publishes passes up later is =
@@ -64,8 +64,8 @@ found_step Q test before last first log logs false publishes passes up later is 
       only = All-cons (IsBy Q log.number) first logs (λ same. absurd (omega (arith, higher, same))) found.only;
     }
 
-pub found_only : (Q : Source → Type 0) (test : Source → Bool) (before last : ℕ) (logs : List Source) (log : Source) →
-    ((one : Source) → test one ≡ true → Q one) → Ascend before last logs → find test logs ≡ Some log →
+pub found_only : (Q : LogRow → Type 0) (test : LogRow → Bool) (before last : ℕ) (logs : List LogRow) (log : LogRow) →
+    ((one : LogRow) → test one ≡ true → Q one) → Ascend before last logs → find test logs ≡ Some log →
     Found Q before last logs log
 found_only Q test before last [] log publishes up is = absurd (cc is)
 found_only Q test before last (first ∷ logs) log publishes up is =

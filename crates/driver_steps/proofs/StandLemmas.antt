@@ -1,15 +1,16 @@
 -- Logs that are held stand for the logs of an end, one for one.
 use Rattle.std.proofs.Common.{rules, ◌≡◌, ℕ, ◌==◌, Bool, true, false, List, [], ◌∷◌, map, Option, Some, None, if◌then◌else◌, refl, ap, ap₂, ◌∙◌, arith}
 use Rattle.std.proofs.lemmas.List.Elements.{All-nil}
-use Rattle.driver_core.specs.declared.peer.Peer.{Peer}
-use Rattle.driver_core.specs.declared.settings.Settings.{Settings}
+use Rattle.driver_core.specs.declared.state.peer.Peer.{Peer}
+use Rattle.driver_core.specs.declared.state.settings.Settings.{Settings}
 use Rattle.driver_core.specs.Soundness.{AreSettings}
 use Rattle.driver_core.specs.State.{State, opened}
-use Rattle.driver_steps.specs.declared.answer.Answer.{Answer}
+use Rattle.log_steps.specs.declared.answer.Answer.{Answer}
 use Rattle.driver_steps.specs.Ends.{RunEnd, log_at, with_log, moved_on}
-use Rattle.driver_steps.specs.Held.{HeldLog, HeldLogs, LiesAsBefore, held_at, with_held}
-use Rattle.driver_steps.specs.Memory.{GivesHeld, is_listed}
-use Rattle.driver_steps.specs.Moves.{WholeLog, Move, StandsForLog, MovesHeld}
+use Rattle.log_steps.specs.Held.{HeldLog, LiesAsBefore}
+use Rattle.driver_steps.specs.OpenLogs.{HeldLogs, held_at, with_held, GivesHeld, MovesHeld}
+use Rattle.log_steps.specs.Memory.{is_listed}
+use Rattle.log_steps.specs.Moves.{WholeLog, Move, StandsForLog}
 use Rattle.policy_core.specs.RuleList.{Rules}
 use Rattle.driver_steps.specs.Standing.{Match, StandAll, row_held, row_on}
 

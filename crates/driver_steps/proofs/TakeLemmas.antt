@@ -1,30 +1,31 @@
 -- An event that was taken goes on from each end that the world stands for.
 use Rattle.std.proofs.Common.{◌≡◌, ℕ, Bool, true, false, not, cond, List, [], ◌∷◌, ◌++◌, map, max, filter, Option, Some, None, refl, sym, ap, ap₂, subst, ◌∙◌, append-nil}
-use Rattle.any_log.specs.Held.{rejoined_held as rejoined_any}
-use Rattle.any_log.specs.Whole.{StandsFor, rejoined}
-use Rattle.any_log.proofs.AnyLemmas.{reach_stands, rejoined_stands as any_rejoined, silent_stands as any_silent}
+use Rattle.log_traffic.specs.Held.{rejoined_held as rejoined_any}
+use Rattle.log_traffic.specs.Whole.{StandsFor, rejoined}
+use Rattle.log_traffic.proofs.AnyLemmas.{reach_stands, rejoined_stands as any_rejoined, silent_stands as any_silent}
 use Rattle.driver_core.specs.Change.{Change}
-use Rattle.driver_core.specs.declared.entry.Entry.{Entry}
-use Rattle.driver_core.specs.declared.event.End.{End}
-use Rattle.driver_core.specs.declared.event.Event.{Event}
-use Rattle.driver_core.specs.declared.event.Event.TheVariants.{Attach, Command, Reload, Tick, Setup as SetUp}
-use Rattle.driver_core.specs.declared.event.Inputs.{Inputs}
-use Rattle.driver_core.specs.declared.outcome.Outcome.{Outcome}
+use Rattle.driver_core.specs.declared.state.entry.Entry.{Entry}
+use Rattle.driver_core.specs.declared.state.event.End.{End}
+use Rattle.driver_core.specs.declared.state.event.Event.{Event}
+use Rattle.driver_core.specs.declared.state.event.Event.TheVariants.{Attach, Command, Reload, Tick, Setup as SetUp}
+use Rattle.driver_core.specs.declared.state.event.Inputs.{Inputs}
+use Rattle.driver_core.specs.declared.state.outcome.Outcome.{Outcome}
 use Rattle.driver_core.specs.Conduct.{conduct, outcome_of, state_after}
 use Rattle.driver_core.specs.Pairs.{pairs_of}
 use Rattle.driver_core.specs.Renewal.{source_at}
 use Rattle.driver_core.specs.State.{State}
-use Rattle.driver_steps.specs.Recovery.{recovering}
+use Rattle.log_steps.specs.Recovery.{recovering}
 use Rattle.driver_steps.specs.Ends.{RunEnd, begun, conducted, end_of_log, inputs_of, is_silent_at, silent_of, logs_after, opened_for, rejoined_log, stays_open}
 use Rattle.driver_core.specs.Readers.{readers_of}
-use Rattle.driver_steps.specs.Held.{HeldLog, HeldLogs, OpensFor, end_held, inputs_held, is_closed, is_kept, is_silent_at as is_silent_held_at, rejoined_held, silent_held}
-use Rattle.driver_steps.specs.Moves.{StandsForLog, WholeLog}
+use Rattle.log_steps.specs.Held.{HeldLog}
+use Rattle.driver_steps.specs.OpenLogs.{HeldLogs, OpensFor, end_held, inputs_held, is_closed, is_kept, is_silent_at as is_silent_held_at, rejoined_held, silent_held}
+use Rattle.log_steps.specs.Moves.{StandsForLog, WholeLog}
 use Rattle.driver_steps.specs.Opening.{Follows, OpensNext}
 use Rattle.driver_steps.specs.Standing.{StandAll, StandsForEnd, Takes}
 use Rattle.driver_steps.proofs.MatchLemmas.{left_held}
 use Rattle.stream_registry.specs.declared.lingering.LogPlace.{LogPlace}
 use Rattle.stream_registry.specs.declared.pairs.Pair.{Pair}
-use Rattle.stream_registry.specs.declared.row.Source.{Source}
+use Rattle.stream_registry.specs.declared.row.LogRow.{LogRow}
 
 -- ---- what the conductor is told
 
@@ -128,7 +129,7 @@ stand_same old new logs same stand =
     let here : StandAll new.logs logs = subst (λ (h : HeldLogs). StandAll h.logs logs) (sym same) stand in
     subst (λ (whole : List WholeLog). StandAll new.logs whole) (sym (append-nil logs)) here
 
-begun_stands : (after : State) (old new : HeldLogs) (place : ℕ) (found : Option Source) (logs : List WholeLog)
+begun_stands : (after : State) (old new : HeldLogs) (place : ℕ) (found : Option LogRow) (logs : List WholeLog)
     → OpensFor old new after place found → StandAll old.logs logs → StandAll new.logs (logs ++ begun after found)
 begun_stands after old new place None logs is stand = stand_same old new logs is stand
 begun_stands after old new place (Some log) logs is stand =

@@ -4,29 +4,30 @@ use Rattle.std.specs.Prelude.{nat_le, nat_lt}
 use Rattle.std.specs.List.{list_any}
 use Rattle.std.proofs.lemmas.Bool.{and_from, and_parts, false_from_ne_true, leb-true, ltb-true, le-leb, lt-ltb}
 use Rattle.std.proofs.lemmas.List.Folds.{list_any_at, list_any_none}
-use Rattle.driver_core.specs.declared.settings.Settings.{Settings}
+use Rattle.driver_core.specs.declared.state.settings.Settings.{Settings}
 use Rattle.driver_core.specs.State.{State}
-use Rattle.driver_steps.specs.Held.{HeldLogs, plot_of, plots_of}
-use Rattle.driver_steps.specs.Plots.{has_page, is_taken, IsVacant as IsVacantAmong, IsLeastVacant}
-use Rattle.driver_steps.specs.Standing.{LogRow, row_held, row_for, Match}
-use Rattle.stream_registry.specs.declared.row.Source.{Source}
+use Rattle.driver_steps.specs.OpenLogs.{HeldLogs, plots_of}
+use Rattle.log_steps.specs.Held.{plot_of}
+use Rattle.log_steps.specs.Plots.{has_page, is_taken, IsVacant as IsVacantAmong, IsLeastVacant}
+use Rattle.driver_steps.specs.Standing.{LogPlot, row_held, row_for, Match}
+use Rattle.stream_registry.specs.declared.row.LogRow.{LogRow}
 use Rattle.stream_registry.specs.LogPages.{holds, log_pages, pages_of}
 use Rattle.stream_registry.specs.PageLaws.{HasPage, IsVacant}
 
 -- ---- one page
 
 -- the page is one of the row's
-abbrev has_row : ℕ → LogRow → Bool
+abbrev has_row : ℕ → LogPlot → Bool
 has_row page row = nat_le row.place (4096 * page) && nat_lt (4096 * page) (row.place + 4096 * pages_of row.term_length)
 
-row_has : (settings : Settings) (log : Source) (page : ℕ) → HasPage log page → has_row page (row_for settings log) ≡ true
+row_has : (settings : Settings) (log : LogRow) (page : ℕ) → HasPage log page → has_row page (row_for settings log) ≡ true
 row_has settings log page has =
     let low : 4096 * log.place ≤ 4096 * page = omega (arith, has.0) in
     let high : 4096 * page < 4096 * log.place + 4096 * log_pages log = omega (arith, has.1) in
     and_from (nat_le (4096 * log.place) (4096 * page)) (nat_lt (4096 * page) (4096 * log.place + 4096 * log_pages log))
     (le-leb (4096 * log.place) (4096 * page) low) (lt-ltb (4096 * page) (4096 * log.place + 4096 * log_pages log) high)
 
-row_had : (settings : Settings) (log : Source) (page : ℕ) → has_row page (row_for settings log) ≡ true → HasPage log page
+row_had : (settings : Settings) (log : LogRow) (page : ℕ) → has_row page (row_for settings log) ≡ true → HasPage log page
 row_had settings log page is =
     let both = and_parts (nat_le (4096 * log.place) (4096 * page)) (nat_lt (4096 * page) (4096 * log.place + 4096 * log_pages log)) is in
     let low = leb-true (4096 * log.place) (4096 * page) both.0 in
@@ -47,12 +48,12 @@ taken_is s held page match =
 
 -- ---- one page of a live log
 
-has_held : (log : Source) (page : ℕ) → HasPage log page → holds log page ≡ true
+has_held : (log : LogRow) (page : ℕ) → HasPage log page → holds log page ≡ true
 has_held log page has =
     and_from (nat_le log.place page) (nat_lt page (log.place + log_pages log))
     (le-leb log.place page has.0) (lt-ltb page (log.place + log_pages log) has.1)
 
-had_held : (log : Source) (page : ℕ) → holds log page ≡ true → HasPage log page
+had_held : (log : LogRow) (page : ℕ) → holds log page ≡ true → HasPage log page
 had_held log page is =
     let both = and_parts (nat_le log.place page) (nat_lt page (log.place + log_pages log)) is in
     (leb-true log.place page both.0, ltb-true page (log.place + log_pages log) both.1)
@@ -62,13 +63,13 @@ both_ways true c to from = sym (to refl)
 both_ways false true to from = from refl
 both_ways false false to from = refl
 
-row_holds : (settings : Settings) (log : Source) (page : ℕ) → has_row page (row_for settings log) ≡ holds log page
+row_holds : (settings : Settings) (log : LogRow) (page : ℕ) → has_row page (row_for settings log) ≡ holds log page
 row_holds settings log page =
     both_ways (has_row page (row_for settings log)) (holds log page)
     (λ is. has_held log page (row_had settings log page is))
     (λ is. row_has settings log page (had_held log page is))
 
-rows_hold : (settings : Settings) (logs : List Source) (page : ℕ)
+rows_hold : (settings : Settings) (logs : List LogRow) (page : ℕ)
     → list_any (λ log. has_row page (row_for settings log)) logs ≡ list_any (λ log. holds log page) logs
 rows_hold settings [] page = refl
 rows_hold settings (log ∷ logs) page = ap₂ (λ a b. a || b) (row_holds settings log page) (rows_hold settings logs page)

@@ -1,20 +1,19 @@
 -- What a poll gives of a remote publisher's stream came in datagrams of that publisher. Own rules.
 use Rattle.std.specs.Prelude.{◌≡◌, ℕ, ◌==◌, List, [], ◌∷◌, ◌++◌, map, All, Contains, drop, Option, Some, Result, Ok, Err, if◌then◌else◌}
 use Rattle.log_pairs.specs.Polling.{Fetched}
-use Rattle.any_log.specs.Whole.{rebuilt}
+use Rattle.log_traffic.specs.Whole.{rebuilt}
 use Rattle.channel_uri.specs.declared.address.Address.{Address}
-use Rattle.driver_core.specs.declared.image_request.Astray.{Astray}
-use Rattle.driver_core.specs.declared.peer.Peer.{Peer}
-use Rattle.driver_core.specs.declared.settings.Settings.{Settings}
+use Rattle.driver_core.specs.declared.asked.image_request.Astray.{Astray}
+use Rattle.driver_core.specs.declared.state.peer.Peer.{Peer}
+use Rattle.driver_core.specs.declared.state.settings.Settings.{Settings}
 use Rattle.driver_core.specs.State.{State}
-use Rattle.driver_steps.specs.declared.answer.Answer.{Answer}
-use Rattle.driver_steps.specs.declared.answer.Answer.TheVariants.{Polled, Received}
+use Rattle.log_steps.specs.declared.answer.Answer.{Answer}
+use Rattle.log_steps.specs.declared.answer.Answer.TheVariants.{Polled, Received}
 use Rattle.driver_steps.specs.declared.step.Step.{Step}
 use Rattle.driver_steps.specs.declared.step.Step.TheVariants.{Packet, Poll}
-use Rattle.driver_steps.specs.Ends.{RunEnd, opening_end, log_at}
+use Rattle.driver_steps.specs.Ends.{image_by, log_at, opening_end, RunEnd}
 use Rattle.driver_steps.specs.Runs.{Reading, AreAnswers, IsAnswerTo, end_of, left_by, read_by}
-use Rattle.driver_steps.specs.Seen.{image_seen}
-use Rattle.driver_steps.specs.Moves.{WholeLog}
+use Rattle.log_steps.specs.Moves.{WholeLog}
 use Rattle.frame_codec.specs.declared.fault.BadPacket.{BadPacket}
 use Rattle.frame_codec.specs.declared.flags.Flags.{Flags}
 use Rattle.frame_codec.specs.Datagram.{Content, frames, packet_of}
@@ -35,7 +34,7 @@ carried_for (Err why) source sent = []
 abbrev pub carried_together : State → RunEnd → ℕ → Address → Address → List Sent → List (List ℕ)
 carried_together s e source local from [] = []
 carried_together s e source local from (frame ∷ later) =
-    carried_for (image_seen s e local from frame.header.place) source (frame ∷ later)
+    carried_for (image_by s e local from frame.header.place) source (frame ∷ later)
 
 -- heartbeats, SETUPs, and what can't be read carry nothing
 abbrev pub carried_on : State → RunEnd → ℕ → Address → Address → Result Content BadPacket → List (List ℕ)

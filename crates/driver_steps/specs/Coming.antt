@@ -1,10 +1,11 @@
 -- What a datagram comes to: a SETUP is an event, and any other is answered.
 use Rattle.std.specs.Prelude.{◌≡◌, ℕ, List, Option, None, Result, Ok}
 use Rattle.channel_uri.specs.declared.address.Address.{Address}
+use Rattle.driver_core.specs.State.{State}
 use Rattle.driver_steps.specs.declared.step.Step.TheVariants.{Packet}
-use Rattle.driver_steps.specs.declared.told.Came.{Came}
-use Rattle.driver_steps.specs.declared.told.Came.TheVariants.{SetUp, Told as CameTold}
-use Rattle.driver_steps.specs.Decided.{DecidesUnless, nak_decided, status_decided}
+use Rattle.log_steps.specs.declared.answered.Came.{Came}
+use Rattle.log_steps.specs.declared.answered.Came.TheVariants.{Answered as CameAnswered, SetUp}
+use Rattle.driver_steps.specs.EndDecisions.{DecidesUnless, nak_decided, status_decided, under}
 use Rattle.driver_steps.specs.Ends.{RunEnd}
 use Rattle.driver_steps.specs.Standing.{Held, Serves}
 use Rattle.frame_codec.specs.declared.fault.BadPacket.{BadPacket}
@@ -17,13 +18,13 @@ content_decided e from (Ok (nak fields)) = nak_decided e from fields
 content_decided e from (Ok (status fields)) = status_decided e from fields
 content_decided e from read = None
 
--- a SETUP is handed back, and nothing is changed
-abbrev pub ComesAs : Held → Held → ℕ → Address → Address → List ℕ → Result Content BadPacket → Came → Type 0
-ComesAs old new now local from bytes (Ok (setup fields)) came = (came ≡ SetUp fields) × (new ≡ old)
-ComesAs old new now local from bytes read (SetUp fields) = ⊥
-ComesAs old new now local from bytes read (CameTold told) =
-    Serves old new (Packet now local from bytes) told.answer
-    × DecidesUnless old (λ e. content_decided e from read) told.answer told.decision
+-- where it goes by that registry: a SETUP is handed back, and nothing is changed
+abbrev pub ComesAs : State → Held → Held → ℕ → Address → Address → List ℕ → Result Content BadPacket → Came → Type 0
+ComesAs s old new now local from bytes (Ok (setup fields)) came = (came ≡ SetUp fields) × (new ≡ old)
+ComesAs s old new now local from bytes read (SetUp fields) = ⊥
+ComesAs s old new now local from bytes read (CameAnswered told) =
+    Serves s old new (Packet now local from bytes) told.answer
+    × DecidesUnless (under old s) (λ e. content_decided e from read) told.answer told.decision
 
-abbrev pub Comes : Held → Held → ℕ → Address → Address → List ℕ → Came → Type 0
-Comes old new now local from bytes came = ComesAs old new now local from bytes (packet_of bytes) came
+abbrev pub Comes : State → Held → Held → ℕ → Address → Address → List ℕ → Came → Type 0
+Comes s old new now local from bytes came = ComesAs s old new now local from bytes (packet_of bytes) came

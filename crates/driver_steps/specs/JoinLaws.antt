@@ -5,17 +5,17 @@ use Rattle.channel_uri.specs.declared.address.Address.{Address}
 use Rattle.driver_core.specs.PublicationRequests.{principal_at, publication_at}
 use Rattle.driver_core.specs.State.{State}
 use Rattle.driver_core.specs.Verdicts.{IsByPolicy}
-use Rattle.driver_steps.specs.declared.answer.Answer.{Answer}
-use Rattle.driver_steps.specs.declared.answer.Answer.TheVariants.{Dropped}
-use Rattle.driver_steps.specs.declared.cause.Cause.TheVariants.{Denied, Full as IsFull}
+use Rattle.log_steps.specs.declared.answer.Answer.{Answer}
+use Rattle.log_steps.specs.declared.answer.Answer.TheVariants.{Dropped}
+use Rattle.log_steps.specs.declared.cause.Cause.TheVariants.{Denied, Full as IsFull}
 use Rattle.driver_steps.specs.declared.step.Step.{Step}
 use Rattle.driver_steps.specs.declared.step.Step.TheVariants.{Packet, Send}
 use Rattle.driver_steps.specs.Ends.{RunEnd, Moved, log_at, on_packet, with_log}
-use Rattle.driver_steps.specs.Hearing.{heard_move, with_learnt}
+use Rattle.log_steps.specs.Hearing.{heard_move, with_learnt}
 use Rattle.driver_steps.specs.Laws.{AtEachEnd, stays}
-use Rattle.driver_steps.specs.Moves.{Move, WholeLog}
+use Rattle.log_steps.specs.Moves.{Move, WholeLog}
 use Rattle.driver_steps.specs.Runs.{Reading, left_by, read_by}
-use Rattle.driver_steps.specs.Sending.{standing_of}
+use Rattle.log_steps.specs.Sending.{standing_of}
 use Rattle.frame_codec.specs.declared.fault.BadPacket.{BadPacket}
 use Rattle.frame_codec.specs.declared.status_message.StatusMessage.{StatusMessage}
 use Rattle.frame_codec.specs.Datagram.{Content, packet_of, status}
@@ -26,11 +26,11 @@ use Rattle.policy_core.specs.declared.act.Act.TheVariants.{Join}
 use Rattle.policy_core.specs.declared.verdict.Verdict.{Verdict}
 use Rattle.policy_core.specs.Question.{Question}
 use Rattle.policy_core.specs.Rules.{verdict_of}
-use Rattle.stream_registry.specs.declared.row.Source.{Source}
+use Rattle.stream_registry.specs.declared.row.LogRow.{LogRow}
 use Rattle.stream_registry.specs.Places.{is_dynamic}
 
 -- whether an address may become a destination: the principal that is bound to it is asked for, on the log's channel and stream
-abbrev pub join_question : State → Address → Source → Question
+abbrev pub join_question : State → Address → LogRow → Question
 join_question s from publication = record {
   principal = principal_at s.peers from;
   act = Join;
@@ -38,7 +38,7 @@ join_question s from publication = record {
   stream = publication.stream;
 }
 
-abbrev pub join_verdict : State → Address → Source → Verdict
+abbrev pub join_verdict : State → Address → LogRow → Verdict
 join_verdict s from publication = verdict_of s.policy s.epoch (join_question s from publication)
 
 -- that one log moves so, and no other is changed
@@ -50,7 +50,7 @@ moved_by_log e log move = record {
 
 -- Denied, it is forgotten; where there is no room for it nothing is changed; else it is learnt, or heard of again, and then the
 -- log hears the message.
-pub record JoinIsDecided (e : RunEnd) (now : ℕ) (from : Address) (fields : StatusMessage) (publication : Source) (log : WholeLog) (what : Moved) : Type 0 where
+pub record JoinIsDecided (e : RunEnd) (now : ℕ) (from : Address) (fields : StatusMessage) (publication : LogRow) (log : WholeLog) (what : Moved) : Type 0 where
   pub by : IsByPolicy e.registry (join_question e.registry from publication) (join_verdict e.registry from publication)
   pub denied :
       (join_verdict e.registry from publication).allow ≡ false →
@@ -68,10 +68,10 @@ pub record JoinIsDecided (e : RunEnd) (now : ℕ) (from : Address) (fields : Sta
 
 pub record JoinsAreDecided (e : RunEnd) : Type 0 where
   pub there :
-      (now : ℕ) (local from : Address) (fields : StatusMessage) (publication : Source) (log : WholeLog) →
+      (now : ℕ) (local from : Address) (fields : StatusMessage) (publication : LogRow) (log : WholeLog) →
       publication_at e.registry fields.session_id fields.stream_id ≡ Some publication → is_dynamic publication.channel ≡ true →
       log_at e.logs publication.number ≡ Some log →
-      JoinIsDecided e now from fields publication log (on_packet e now local from (Ok (status fields)))
+      JoinIsDecided e now from fields publication log (on_packet e.registry e now local from (Ok (status fields)))
 
 -- no log has learnt an address twice, or more than 32
 abbrev pub LearnOrderly : RunEnd → Type 0
@@ -81,7 +81,7 @@ LearnOrderly e = All (λ log. AreOrderly log.recovery.learnt) e.logs
 
 -- a status message for the publication of that log: let join, the address is learnt if there is room; denied, it is forgotten
 pub record ChangesByStatus (s : State) (now : ℕ) (from : Address) (fields : StatusMessage) (log after : WholeLog) : Type 0 where
-  pub publication : Source
+  pub publication : LogRow
   pub publication_is : publication_at s fields.session_id fields.stream_id ≡ Some publication
   pub dynamic : is_dynamic publication.channel ≡ true
   pub number_is : publication.number ≡ log.source

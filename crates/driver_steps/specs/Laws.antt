@@ -1,15 +1,15 @@
 -- What holds at the end of every run, of the offers and polls there, and of the bytes that a poll gives.
 use Rattle.std.specs.Prelude.{◌≡◌, ℕ, ◌+◌, ◌==◌, ◌&&◌, not, nat_lt, true, false, List, [], ◌∷◌, ◌++◌, length, map, All, Contains, Option, Some, None, Result, Ok, if◌then◌else◌}
-use Rattle.any_log.specs.Held.{Made}
-use Rattle.any_log.specs.Whole.{AnyWhole, whole, rebuilt, made_for as made_any, polled, readers_in}
+use Rattle.log_traffic.specs.Held.{Made}
+use Rattle.log_traffic.specs.Whole.{AnyWhole, whole, rebuilt, made_for as made_any, polled, readers_in}
 use Rattle.image_log.specs.Polling.{polled as image_polled, polled_frame, whole_from}
 use Rattle.image_log.specs.Rebuilt.{Rebuilt}
-use Rattle.driver_core.specs.declared.event.Event.{Event}
-use Rattle.driver_core.specs.declared.event.Event.TheVariants.{Setup as SetUp}
-use Rattle.driver_core.specs.declared.event.Inputs.{Inputs}
-use Rattle.driver_core.specs.declared.log_request.LogRequest.{LogRequest}
-use Rattle.driver_core.specs.declared.peer.Peer.{Peer}
-use Rattle.driver_core.specs.declared.settings.Settings.{Settings}
+use Rattle.driver_core.specs.declared.state.event.Event.{Event}
+use Rattle.driver_core.specs.declared.state.event.Event.TheVariants.{Setup as SetUp}
+use Rattle.driver_core.specs.declared.state.event.Inputs.{Inputs}
+use Rattle.driver_core.specs.declared.asked.log_request.LogRequest.{LogRequest}
+use Rattle.driver_core.specs.declared.state.peer.Peer.{Peer}
+use Rattle.driver_core.specs.declared.state.settings.Settings.{Settings}
 use Rattle.driver_core.specs.Conduct.{outcome_of, state_of}
 use Rattle.driver_core.specs.Listing.{list, value}
 use Rattle.driver_core.specs.LogRequests.{offering_of, registration_at, has_pair}
@@ -19,17 +19,17 @@ use Rattle.driver_core.specs.Renewal.{source_at, subscription_at}
 use Rattle.driver_core.specs.Soundness.{AreSettings}
 use Rattle.driver_core.specs.State.{State, opened}
 use Rattle.driver_core.specs.Verdicts.{IsByPolicy}
-use Rattle.driver_steps.specs.declared.answer.Answer.{Answer}
-use Rattle.driver_steps.specs.declared.answer.Answer.TheVariants.{NoMemory, Offered as OfferedAs, Polled, Gone as IsGone, Denied}
-use Rattle.driver_steps.specs.declared.answer.Offered.TheVariants.{At, Closed, TooLong, NotConnected}
+use Rattle.log_steps.specs.declared.answer.Answer.{Answer}
+use Rattle.log_steps.specs.declared.answer.Answer.TheVariants.{NoMemory, Offered as OfferedAs, Polled, Gone as IsGone, Denied}
+use Rattle.log_steps.specs.declared.answer.Offered.TheVariants.{At, Closed, TooLong, NotConnected}
 use Rattle.driver_steps.specs.declared.step.Step.{Step}
 use Rattle.driver_steps.specs.declared.step.Step.TheVariants.{Conductor, Packet, Offer, Poll, Send, Image, List as Lists, Value}
-use Rattle.driver_steps.specs.Answers.{answer_of, answer_listed, answer_shown, offered_as}
+use Rattle.log_steps.specs.Answers.{answer_of, answer_listed, answer_shown, offered_as}
 use Rattle.driver_steps.specs.Ends.{RunEnd, Moved, opening_end, inputs_of, log_at, with_log, moved, IsAnswer}
 use Rattle.driver_steps.specs.Runs.{Reading, AreAnswers, IsAnswerTo, end_of, left_by, read_by}
 use Rattle.driver_core.specs.Readers.{readers_of}
-use Rattle.driver_steps.specs.Idents.{made_of}
-use Rattle.driver_steps.specs.Moves.{WholeLog}
+use Rattle.log_steps.specs.Idents.{made_of}
+use Rattle.log_steps.specs.Moves.{WholeLog}
 use Rattle.channel_uri.specs.declared.address.Address.{Address}
 use Rattle.client_registry.specs.declared.client.Client.{Client}
 use Rattle.frame_codec.specs.declared.fault.BadPacket.{BadPacket}
@@ -40,7 +40,7 @@ use Rattle.policy_core.specs.declared.verdict.Verdict.{Verdict}
 use Rattle.policy_core.specs.Question.{Question}
 use Rattle.policy_core.specs.RuleList.{Rules}
 use Rattle.policy_core.specs.Rules.{verdict_of}
-use Rattle.stream_registry.specs.declared.row.Source.{Source}
+use Rattle.stream_registry.specs.declared.row.LogRow.{LogRow}
 use Rattle.stream_registry.specs.declared.row.Registration.{Registration}
 use Rattle.stream_registry.specs.declared.row.Subscription.{Subscription}
 use Rattle.stream_registry.specs.PageLaws.{IsLaidOut}
@@ -136,7 +136,7 @@ PoliciesStandAtTheirMoment = AtEachEnd (λ e. IsAtItsMoment e.registry)
 abbrev pub made_for : WholeLog → ℕ × Made
 made_for log = (log.source, made_any log.whole)
 
-abbrev pub made_as : Settings → Source → ℕ × Made
+abbrev pub made_as : Settings → LogRow → ℕ × Made
 made_as settings log = (log.number, made_of settings log)
 
 -- each live source has its log, in the same order; no two of them share a page; and exactly those subscriptions read
@@ -158,7 +158,7 @@ LogsFollowTheRegistry = AtEachEnd LogsFollow
 pub record OfferRequest : Type 0 where
   pub client : Client
   pub registration : Registration
-  pub publication : Source
+  pub publication : LogRow
 
 pub record AsksToOffer (s : State) (handle number : ℕ) (request : OfferRequest) : Type 0 where
   pub client_is : client_at s.clients.rows handle ≡ Some request.client

@@ -1,21 +1,17 @@
 -- The log that an event opens, if it opens one, and what becomes of the others. Own rules.
-use Rattle.std.specs.Prelude.{◌≡◌, ℕ, ◌*◌, ◌<◌, List, length, map, filter, Option, Some, None}
-use Rattle.driver_core.specs.declared.event.Event.{Event}
-use Rattle.driver_core.specs.declared.event.Event.TheVariants.{Setup as SetUp}
+use Rattle.std.specs.Prelude.{◌≡◌, ℕ, ◌<◌, List, length, map, filter, Option, Some, None}
+use Rattle.driver_core.specs.declared.state.event.Event.{Event}
 use Rattle.driver_core.specs.Pairs.{pairs_of}
 use Rattle.driver_core.specs.Renewal.{source_at}
 use Rattle.driver_core.specs.State.{State}
 use Rattle.driver_steps.specs.declared.opening.Memory.{Memory}
 use Rattle.driver_steps.specs.declared.opening.Memory.TheVariants.{Publication, Image}
 use Rattle.driver_steps.specs.declared.opening.Opening.{Opening}
-use Rattle.driver_steps.specs.Held.{HeldLogs, IsOpening, OpensFor, is_kept, rejoined_held}
-use Rattle.frame_codec.specs.declared.join.Join.{Join}
-use Rattle.frame_codec.specs.declared.setup.Setup.{Setup}
-use Rattle.frame_codec.specs.Join.{join_of}
+use Rattle.driver_steps.specs.OpenLogs.{HeldLogs, IsOpening, OpensFor, is_kept, rejoined_held}
 use Rattle.stream_registry.specs.declared.lingering.LogPlace.{LogPlace}
-use Rattle.stream_registry.specs.declared.row.Origin.{Origin}
-use Rattle.stream_registry.specs.declared.row.Origin.TheVariants.{Published, Remote}
-use Rattle.stream_registry.specs.declared.row.Source.{Source}
+use Rattle.stream_registry.specs.declared.row.LogRow.{LogRow}
+use Rattle.log_steps.specs.Moves.{taken}
+use Rattle.log_steps.specs.Rooms.{IsRoomFor, memory_of}
 
 -- where the log is to lie for which memory was taken, if it was for one
 abbrev pub place_of : Option Opening → Option LogPlace
@@ -27,24 +23,8 @@ abbrev pub room_of : Memory → Option ℕ
 room_of (Publication room) = None
 room_of (Image room) = Some room
 
-abbrev pub room_by : Option Join → Option ℕ
-room_by None = None
-room_by (Some join) = Some (3 * join.term_length)
-
-abbrev pub room_of_setup : Setup → Option ℕ
-room_of_setup setup = room_by (join_of setup)
-
--- that for the log which the event brings
-abbrev pub memory_of : Event → Option ℕ
-memory_of (SetUp now local from setup) = room_of_setup setup
-memory_of event = None
-
-abbrev pub IsRoomFor : Option ℕ → Source → Origin → Type 0
-IsRoomFor room log (Published exclusive since) = room ≡ None
-IsRoomFor room log (Remote address initial_term join) = room ≡ Some (3 * log.measures.term_length)
-
 -- it is for that log
-abbrev pub IsMemoryFor : Option ℕ → Option Source → Type 0
+abbrev pub IsMemoryFor : Option ℕ → Option LogRow → Type 0
 IsMemoryFor room None = Unit {0}
 IsMemoryFor room (Some log) = IsRoomFor room log log.origin
 

@@ -1,10 +1,9 @@
 -- Runs, each of whose steps goes by the newest registry or by an older one. Own rules.
-use Rattle.std.specs.Prelude.{List, [], ◌∷◌, Option, Some, None}
+use Rattle.std.specs.Prelude.{List, [], ◌∷◌, Option, None}
 use Rattle.driver_core.specs.State.{State}
-use Rattle.driver_steps.specs.declared.answer.Answer.{Answer}
+use Rattle.log_steps.specs.declared.answer.Answer.{Answer}
 use Rattle.driver_steps.specs.declared.step.Step.{Step}
-use Rattle.driver_steps.specs.Ends.{RunEnd, Moved, after_by, moved, IsAnswerOf}
-use Rattle.driver_steps.specs.Seen.{moved_seen}
+use Rattle.driver_steps.specs.Ends.{RunEnd, Moved, after_by, looks_at, moved_by, IsAnswerOf}
 
 -- a step, with the registry that its actor looks at, if that is not the newest one
 pub record Reading : Type 0 where
@@ -17,16 +16,11 @@ newest step = record { older = None; step = step }
 
 -- the registry by which it goes
 abbrev pub read_by : RunEnd → Option State → State
-read_by e None = e.registry
-read_by e (Some older) = older
+read_by e older = looks_at e.registry older
 
 -- what it leaves, and what it is answered
-abbrev pub moved_by : RunEnd → Option State → Step → Moved
-moved_by e None step = moved e step
-moved_by e (Some older) step = moved_seen older e step
-
 abbrev pub moved_to : RunEnd → Reading → Moved
-moved_to e reading = moved_by e reading.older reading.step
+moved_to e reading = moved_by (read_by e reading.older) e reading.step
 
 -- one that is refused memory leaves all as it was
 abbrev pub left_by : RunEnd → Reading → Answer → RunEnd

@@ -1,33 +1,33 @@
 -- The sender's turns at the end of every run: which datagram is cut, where it goes, and by whose leave.
 use Rattle.std.specs.Prelude.{◌≡◌, ℕ, true, false, List, map, Option, Some, None}
 use Rattle.std.specs.Option.{is_some}
-use Rattle.any_log.specs.Whole.{whole}
 use Rattle.destinations.specs.declared.destination.Destination.{Destination}
 use Rattle.destinations.specs.Destinations.{of}
-use Rattle.driver_core.specs.declared.send_request.Outlet.{Outlet}
+use Rattle.driver_core.specs.declared.asked.send_request.Outlet.{Outlet}
 use Rattle.driver_core.specs.Renewal.{source_at}
 use Rattle.driver_core.specs.PublicationRequests.{principal_at}
 use Rattle.driver_core.specs.SendRequests.{is_sent, learnt_outlet, outlet_channel, outlet_of, sending_of}
 use Rattle.driver_core.specs.State.{State}
 use Rattle.driver_core.specs.Verdicts.{IsByPolicy}
-use Rattle.driver_steps.specs.declared.answer.Answer.TheVariants.{Gone, Idle, Sent}
+use Rattle.log_steps.specs.declared.answer.Answer.TheVariants.{Gone, Idle, Sent}
 use Rattle.driver_steps.specs.declared.step.Step.TheVariants.{Send}
 use Rattle.driver_steps.specs.Ends.{RunEnd, Moved, log_at, moved, with_log}
 use Rattle.driver_steps.specs.Laws.{AtEachEnd, stays}
-use Rattle.driver_steps.specs.Moves.{WholeLog}
-use Rattle.driver_steps.specs.Sending.{expired, pace_of, standing_of}
+use Rattle.log_steps.specs.Moves.{WholeLog}
+use Rattle.log_steps.specs.Sending.{expired, pace_of, standing_of}
 use Rattle.learnt_addresses.specs.declared.learnt_address.LearntAddress.{LearntAddress}
+use Rattle.log_traffic.specs.Whole.{whole}
+use Rattle.log_traffic.specs.Cutting.{cut_of, datagram_of}
 use Rattle.policy_core.specs.declared.act.Act.TheVariants.{Send as ToSend}
 use Rattle.policy_core.specs.Question.{Question}
-use Rattle.publication_sender.specs.Cutting.{cut_of, datagram_of}
-use Rattle.stream_registry.specs.declared.row.Source.{Source}
+use Rattle.stream_registry.specs.declared.row.LogRow.{LogRow}
 use Rattle.stream_registry.specs.Origins.{lingering_since}
 use Rattle.stream_registry.specs.Places.{is_dynamic}
 use Rattle.term_log.specs.Whole.{Whole}
 
 -- whether a datagram may go to a destination: its maker's principal is asked for, on the destination's channel where it was
 -- named by hand and else on the log's, and on the log's stream
-abbrev pub send_question : Source → Destination → Question
+abbrev pub send_question : LogRow → Destination → Question
 send_question publication destination = record {
   principal = destination.principal;
   act = ToSend;
@@ -36,13 +36,13 @@ send_question publication destination = record {
 }
 
 -- it goes to that address, and the first rule that matches, or the default, says whether it may
-pub record OutletIsDecided (s : State) (publication : Source) (destination : Destination) (outlet : Outlet) : Type 0 where
+pub record OutletIsDecided (s : State) (publication : LogRow) (destination : Destination) (outlet : Outlet) : Type 0 where
   pub to_is : outlet.to ≡ destination.address
   pub by : IsByPolicy s (send_question publication destination) outlet.decision.verdict
 
 -- whether it may go to an address that was learnt: the principal that is bound to the address is asked for, on the log's
 -- channel and stream
-abbrev pub learnt_question : State → Source → LearntAddress → Question
+abbrev pub learnt_question : State → LogRow → LearntAddress → Question
 learnt_question s publication learnt = record {
   principal = principal_at s.peers learnt.address;
   act = ToSend;
@@ -51,7 +51,7 @@ learnt_question s publication learnt = record {
 }
 
 -- it goes to that address, and the first rule that matches, or the default, says whether it may
-pub record LearntIsDecided (s : State) (publication : Source) (learnt : LearntAddress) (outlet : Outlet) : Type 0 where
+pub record LearntIsDecided (s : State) (publication : LogRow) (learnt : LearntAddress) (outlet : Outlet) : Type 0 where
   pub to_is : outlet.to ≡ learnt.address
   pub by : IsByPolicy s (learnt_question s publication learnt) outlet.decision.verdict
 
@@ -73,14 +73,14 @@ cut_by_log e now log frames bytes outlets = record {
 }
 
 -- the datagram that is due of all frames that were ever appended
-abbrev pub due_of_log : RunEnd → ℕ → Source → Whole → Option (List ℕ)
+abbrev pub due_of_log : RunEnd → ℕ → LogRow → Whole → Option (List ℕ)
 due_of_log e now publication frames =
     datagram_of (pace_of e.registry.settings) now (is_some (lingering_since publication)) frames
 
 -- Nothing is sent where nothing is due; else one datagram, for each destination of the publication, in the order in which
 -- they were named, or for each address that the log has learnt and that is not past the timeout, in the order in which they
 -- were learnt.
-pub record SendIsDecided (e : RunEnd) (now : ℕ) (publication : Source) (log : WholeLog) (frames : Whole) (what : Moved) : Type 0 where
+pub record SendIsDecided (e : RunEnd) (now : ℕ) (publication : LogRow) (log : WholeLog) (frames : Whole) (what : Moved) : Type 0 where
   pub outlets : List Outlet
   pub named :
       is_dynamic publication.channel ≡ false →
@@ -101,7 +101,7 @@ pub record SendIsDecided (e : RunEnd) (now : ℕ) (publication : Source) (log : 
 -- the log of a publication is one of frames that were appended
 pub record SendsAreDecided (e : RunEnd) : Type 0 where
   pub there :
-      (now source : ℕ) (publication : Source) (log : WholeLog) →
+      (now source : ℕ) (publication : LogRow) (log : WholeLog) →
       source_at e.registry.streams.sources source ≡ Some publication → is_sent publication ≡ true →
       log_at e.logs source ≡ Some log →
       (frames : Whole)

@@ -2,22 +2,24 @@
 -- goes on from each such end.
 use Rattle.std.specs.Prelude.{◌≡◌, ℕ, ◌*◌, Bool, List, [], ◌∷◌, map}
 use Rattle.std.specs.List.{list_any, range_with_len}
-use Rattle.any_log.specs.Held.{Made, made_held}
-use Rattle.driver_core.specs.declared.event.Event.{Event}
-use Rattle.driver_core.specs.declared.outcome.Outcome.{Outcome}
-use Rattle.driver_core.specs.declared.settings.Settings.{Settings}
+use Rattle.driver_core.specs.declared.state.event.Event.{Event}
+use Rattle.driver_core.specs.declared.state.outcome.Outcome.{Outcome}
+use Rattle.driver_core.specs.declared.state.settings.Settings.{Settings}
 use Rattle.driver_core.specs.Conduct.{conduct}
 use Rattle.driver_core.specs.Soundness.{IsSound}
 use Rattle.driver_core.specs.State.{State}
-use Rattle.driver_steps.specs.declared.answer.Answer.{Answer}
+use Rattle.log_steps.specs.declared.answer.Answer.{Answer}
 use Rattle.driver_steps.specs.declared.step.Step.{Step}
-use Rattle.driver_steps.specs.Ends.{RunEnd, Moved, conducted, inputs_of, IsAnswer, IsAnswerOf, after, after_by}
-use Rattle.driver_steps.specs.Held.{HeldLog, HeldLogs, plot_of}
-use Rattle.driver_steps.specs.Idents.{made_of}
-use Rattle.driver_steps.specs.Memory.{HasMemory, HasMemoryBy, is_listed}
-use Rattle.driver_steps.specs.Moves.{WholeLog, StandsForLog}
-use Rattle.driver_steps.specs.Plots.{Plot}
-use Rattle.stream_registry.specs.declared.row.Source.{Source}
+use Rattle.driver_steps.specs.Ends.{RunEnd, Moved, conducted, inputs_of, moved_by, IsAnswerOf, after_by}
+use Rattle.log_steps.specs.Held.{HeldLog, plot_of}
+use Rattle.driver_steps.specs.OpenLogs.{HeldLogs}
+use Rattle.log_steps.specs.Idents.{made_of}
+use Rattle.driver_steps.specs.StepMemory.{HasMemory, HasMemoryBy}
+use Rattle.log_steps.specs.Memory.{is_listed}
+use Rattle.log_steps.specs.Moves.{WholeLog, StandsForLog}
+use Rattle.log_steps.specs.Plots.{Plot}
+use Rattle.log_traffic.specs.Held.{Made, made_held}
+use Rattle.stream_registry.specs.declared.row.LogRow.{LogRow}
 use Rattle.stream_registry.specs.LogPages.{holds}
 
 -- the registry, and the open logs
@@ -28,20 +30,20 @@ pub record Held : Type 0 where
 -- ---- what is held together: the open logs are the live ones
 
 -- a log by its number, its first byte in the memory of all logs, how many bytes one of its terms has, and what it is made for
-pub record LogRow : Type 0 where
+pub record LogPlot : Type 0 where
   pub source : ℕ
   pub place : ℕ
   pub term_length : ℕ
   pub made : Made
 
-abbrev pub row_on : Plot → Made → LogRow
+abbrev pub row_on : Plot → Made → LogPlot
 row_on plot made =
     record { source = plot.source; place = plot.place; term_length = plot.term_length; made = made }
 
-abbrev pub row_held : HeldLog → LogRow
+abbrev pub row_held : HeldLog → LogPlot
 row_held held = row_on (plot_of held) (made_held held.log)
 
-abbrev pub row_for : Settings → Source → LogRow
+abbrev pub row_for : Settings → LogRow → LogPlot
 row_for settings log = record {
   source = log.number;
   place = 4096 * log.place;
@@ -81,14 +83,27 @@ pub record Takes (old new : Held) (event : Event) (outcome : Outcome) : Type 0 w
       (e : RunEnd) → StandsForEnd old e →
       (outcome ≡ (conduct e.registry event (inputs_of e.registry event e.logs)).outcome) × StandsForEnd new (conducted e event).after
 
--- What comes of a step, for each end that the driver stands for. Want of memory is an answer only where a list is given.
+-- What comes of a step, for each end that the driver stands for. Out of memory is an answer only where a list is given.
 pub record ServesAs (old new : Held) (what : RunEnd → Moved) (answer : Answer) : Type 0 where
   pub on :
       (e : RunEnd) → StandsForEnd old e →
       IsAnswerOf (what e) answer × StandsForEnd new (after_by e (what e) answer)
   pub without_memory : (e : RunEnd) → StandsForEnd old e → HasMemoryBy (is_listed (what e).answer) answer
 
--- One step, for each end that the driver stands for. Want of memory is an answer only to a step that may take some.
-pub record Serves (old new : Held) (step : Step) (answer : Answer) : Type 0 where
-  pub on : (e : RunEnd) → StandsForEnd old e → IsAnswer e step answer × StandsForEnd new (after e step answer)
-  pub without_memory : (e : RunEnd) → StandsForEnd old e → HasMemory e step answer
+-- One step by that registry, for each end that the driver stands for. Out of memory is an answer only to a step that may take
+-- some.
+pub record Serves (s : State) (old new : Held) (step : Step) (answer : Answer) : Type 0 where
+  pub on :
+      (e : RunEnd) → StandsForEnd old e →
+      IsAnswerOf (moved_by s e step) answer × StandsForEnd new (after_by e (moved_by s e step) answer)
+  pub without_memory : (e : RunEnd) → StandsForEnd old e → HasMemory s e step answer
+
+-- ---- on the open logs, whichever registry is the newest
+
+pub record LogsServe (old new : HeldLogs) (what : RunEnd → Moved) (answer : Answer) : Type 0 where
+  pub on : (s : State) →
+      ServesAs (record { registry = s; logs = old.logs }) (record { registry = s; logs = new.logs }) what answer
+
+-- they lie where the registry says, as before
+pub record KeepMatch (old new : HeldLogs) : Type 0 where
+  pub on : (s : State) → Match s old → Match s new

@@ -1,37 +1,30 @@
 //! Steps of actors on the open logs, by whichever registry is shown.
 
 ghost use Rattle.driver_core.specs.LogRequests.{offering_of};
-ghost use Rattle.driver_steps.specs.declared.answer.Answer.TheVariants.{Gone, NoMemory};
-ghost use Rattle.driver_steps.specs.Decided.{DecidesAs, DecidesUnless, offer_decided, poll_decided};
-ghost use Rattle.driver_steps.specs.Ends.{on_image, on_log, on_offered_by};
-ghost use Rattle.driver_steps.specs.Moves.{poll_move};
-ghost use Rattle.driver_steps.specs.Packets.{IsForRequest, LogsDecide, of_image, on_request, request_decided};
-ghost use Rattle.driver_steps.specs.Receiving.{receive_move};
-ghost use Rattle.driver_steps.specs.Reporting.{image_move};
-ghost use Rattle.driver_steps.specs.Seen.{KeepMatch, LogsServe};
-ghost use Rattle.driver_steps.specs.Sending.{send_move};
-ghost use Rattle.frame_codec.specs.Datagram.{content, frames as data_frames};
-ghost use Rattle.frame_codec.specs.Frames.{frames_left};
+ghost use Rattle.log_steps.specs.declared.answer.Answer.TheVariants.{Gone, NoMemory};
+ghost use Rattle.driver_steps.specs.EndDecisions.{DecidesAs, DecidesUnless, offer_decided, poll_decided};
+ghost use Rattle.driver_steps.specs.Ends.{on_log, on_offered};
+ghost use Rattle.log_steps.specs.Moves.{poll_move};
+ghost use Rattle.driver_steps.specs.Requests.{IsForRequest, LogsDecide, on_request, request_decided};
+ghost use Rattle.log_steps.specs.Reporting.{image_move};
+ghost use Rattle.driver_steps.specs.Standing.{KeepMatch, LogsServe};
+ghost use Rattle.log_steps.specs.Sending.{send_move};
+ghost use Rattle.frame_codec.specs.Datagram.{content};
 ghost use Rattle.std.specs.Prelude.{◌≡◌, None};
 
-use crate::answer::Answer;
-use crate::asking::Asks;
-use crate::cause::Cause;
-use crate::offering::closed;
 use crate::open_logs::OpenLogs;
-use crate::packets::PacketRequest;
-use crate::told::Told;
 use driver_core::{Address, Astray, View};
-use frame_codec::{Frames, Packet};
+use frame_codec::Packet;
+use log_steps::{Answer, Answered, Asks, Cause, PacketRequest, closed};
 use std::alloc::Global;
 
 /// A step was refused memory. It is made in place: a call would return it where other steps return theirs, which then could not
 /// stay in registers.
 #[inline(always)]
-fn refused() -> Told
+fn refused() -> Answered
     ensures { result ≡ record { answer = NoMemory; decision = None } }
 {
-    Told {
+    Answered {
         answer: Answer::NoMemory,
         decision: None,
     }
@@ -46,9 +39,9 @@ pub(crate) fn offer_by<V: View, A: Asks>(
     client: u64,
     registration: u64,
     message: &[u8],
-) -> Told
+) -> Answered
     requires { A.is_right asker.old (V.shows view.now) }
-    ensures serves { LogsServe logs.old logs.new (λ e. on_offered_by (V.shows view.now) e now client registration message.now (offering_of (V.shows view.now) client registration)) result.answer }
+    ensures serves { LogsServe logs.old logs.new (λ e. on_offered (V.shows view.now) e now client registration message.now (offering_of (V.shows view.now) client registration)) result.answer }
     ensures decides { DecidesAs (record { registry = V.shows view.now; logs = logs.old.logs }) (λ e. offer_decided e client registration) result.decision }
     ensures kept { KeepMatch logs.old logs.new }
     ensures right { A.is_right asker.new (V.shows view.now) }
@@ -69,7 +62,7 @@ pub(crate) fn poll_by<V: View, A: Asks>(
     subscription: u64,
     source: u64,
     limit: u32,
-) -> Told
+) -> Answered
     requires { A.is_right asker.old (V.shows view.now) }
     ensures serves { LogsServe logs.old logs.new (λ e. on_log e source (poll_move (V.shows view.now) client subscription limit) Gone) result.answer }
     ensures decides { DecidesUnless (record { registry = V.shows view.now; logs = logs.old.logs }) (λ e. poll_decided e client subscription source) result.answer result.decision }
@@ -127,7 +120,7 @@ pub(crate) fn packet_by(
     from: &Address,
     packet: Packet<'_>,
     request: Result<PacketRequest, Astray>,
-) -> Told
+) -> Answered
     requires { IsForRequest logs.old.logs request (content packet) }
     ensures serves { LogsServe logs.old logs.new (λ e. on_request e now from.now (content packet.entry) request) result.answer }
     ensures decides { LogsDecide logs.old (λ e. request_decided e request) result.answer result.decision }
@@ -138,31 +131,9 @@ pub(crate) fn packet_by(
             Ok(told) => told,
             Err(_) => refused(),
         },
-        Err(why) => Told {
+        Err(why) => Answered {
             answer: Answer::Dropped(Cause::Astray(why)),
             decision: None,
         },
-    }
-}
-
-/// The frames of a datagram came, for the image that the registry says.
-#[inline(always)]
-pub(crate) fn frames_by(
-    logs: &mut OpenLogs,
-    alloc: Global,
-    now: u64,
-    frames: Frames<'_>,
-    image: Result<u64, Astray>,
-) -> Answer
-    requires { IsForRequest logs.old.logs (of_image image) (data_frames (frames_left frames)) }
-    ensures serves { LogsServe logs.old logs.new (λ e. on_image e (receive_move now (frames_left frames.entry)) image) result }
-    ensures kept { KeepMatch logs.old logs.new }
-{
-    match image {
-        Ok(source) => match logs.receive(alloc, now, source, frames) {
-            Ok(answer) => answer,
-            Err(_) => Answer::NoMemory,
-        },
-        Err(why) => Answer::Dropped(Cause::Astray(why)),
     }
 }

@@ -1,11 +1,11 @@
 //! What the logs report to the conductor.
 
-ghost use Rattle.driver_steps.specs.Held.{end_held, inputs_held, is_silent_at, silent_held};
+ghost use Rattle.driver_steps.specs.OpenLogs.{end_held, inputs_held, is_silent_at, silent_held};
 ghost use Rattle.std.specs.Prelude.{◌≡◌, filter, map, IfOk};
 
-use crate::open_log::OpenLog;
 use byte_strings::Items;
 use driver_core::{End, Event, Inputs, Registry};
+use log_steps::OpenLog;
 use std::alloc::{AllocError, Global};
 
 /// How far each log reaches.
@@ -15,8 +15,8 @@ fn ends_of(alloc: Global, logs: &[OpenLog]) -> Result<Items<End>, AllocError>
     let mut ends = Items::new(alloc);
     for open in logs {
         ends.push(End {
-            source: open.source,
-            position: open.log.reach(),
+            source: open.source(),
+            position: open.reach(),
         })?;
     }
     Ok(ends)
@@ -35,8 +35,8 @@ fn silent_at(
     let moment = registry.moment().max(now);
     let liveness = registry.settings().image_liveness;
     for open in logs {
-        if open.log.is_silent(moment, liveness) {
-            silent.push(open.source)?;
+        if open.is_silent(moment, liveness) {
+            silent.push(open.source())?;
         }
     }
     Ok(silent)

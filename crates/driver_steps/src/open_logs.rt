@@ -1,46 +1,37 @@
 //! The open logs of a driver, in one arena.
 
-ghost use Rattle.any_log.specs.Whole.{rebuilt, whole};
 ghost use Rattle.driver_core.specs.LogRequests.{offering_of};
 ghost use Rattle.driver_core.specs.Pairs.{pairs_of as all_pairs};
 ghost use Rattle.driver_core.specs.Readers.{readers_of};
-ghost use Rattle.driver_steps.specs.Held.{IsOpened, is_closed, is_kept, place_at, plots_of, rejoined_held, with_readers, without};
-ghost use Rattle.driver_steps.specs.Decided.{DecidesFirst, offer_decision, poll_decision};
-ghost use Rattle.driver_steps.specs.Idents.{heard_at};
-ghost use Rattle.driver_steps.specs.declared.answer.Answer.TheVariants.{Gone, Offered as OfferedAs};
-ghost use Rattle.driver_steps.specs.declared.answer.Offered.TheVariants.{Closed};
-ghost use Rattle.driver_steps.specs.Memory.{GivesFirst};
-ghost use Rattle.driver_steps.specs.Moves.{MovesFirst, offer_move, poll_move};
-ghost use Rattle.driver_steps.specs.Packets.{IsForFirst, content_move};
-ghost use Rattle.driver_steps.specs.Plots.{IsLeastVacant, taken_pages};
-ghost use Rattle.driver_steps.specs.Receiving.{receive_move, unheard};
-ghost use Rattle.driver_steps.specs.Recovery.{recovering};
-ghost use Rattle.driver_steps.specs.Reporting.{image_move};
-ghost use Rattle.driver_steps.specs.Sending.{send_move};
-ghost use Rattle.frame_codec.specs.Datagram.{content, frames as data_frames};
-ghost use Rattle.frame_codec.specs.Frames.{frames_left};
+ghost use Rattle.driver_steps.specs.OpenLogs.{IsOpened, is_closed, is_kept, place_at, plots_of, rejoined_held, with_readers, without, DecidesFirst, GivesFirst, MovesFirst, IsForFirst};
+ghost use Rattle.log_steps.specs.Decided.{offer_decision, poll_decision};
+ghost use Rattle.log_steps.specs.Idents.{heard_at};
+ghost use Rattle.log_steps.specs.declared.answer.Answer.TheVariants.{Gone, Offered as OfferedAs};
+ghost use Rattle.log_steps.specs.declared.answer.Offered.TheVariants.{Closed};
+ghost use Rattle.log_steps.specs.Moves.{offer_move, poll_move};
+ghost use Rattle.log_steps.specs.Packets.{content_move};
+ghost use Rattle.log_steps.specs.Plots.{IsLeastVacant, taken_pages};
+ghost use Rattle.log_steps.specs.Receiving.{unheard};
+ghost use Rattle.log_steps.specs.Recovery.{recovering};
+ghost use Rattle.log_steps.specs.Reporting.{image_move};
+ghost use Rattle.log_steps.specs.Sending.{send_move};
+ghost use Rattle.frame_codec.specs.Datagram.{content};
 ghost use Rattle.image_log.specs.Rebuilt.{opened};
 ghost use Rattle.log_arena.specs.Pages.{holes_of};
+ghost use Rattle.log_traffic.specs.Whole.{rebuilt, whole};
 ghost use Rattle.std.specs.Prelude.{◌≡◌, ℕ, ◌*◌, ◌%◌, ◌^◌, ◌<◌, ◌≤◌, [], length, map, filter, IfOk, OnOk, OnErr, Some};
 ghost use Rattle.stream_registry.specs.LogPages.{pages_of};
 ghost use Rattle.term_log.specs.Ident.{IsIdent};
 ghost use Rattle.term_log.specs.Whole.{fresh};
 
-use crate::answer::{Answer, Offered};
-use crate::asking::Asks;
-use crate::cause::Cause;
-use crate::offering::offer_asked;
-use crate::open_log::OpenLog;
-use crate::packets::{PacketRequest, packet_step};
-use crate::polling::poll_step;
-use crate::receiving::frames_step;
-use crate::reporting::image_step;
-use crate::sending::send_own;
-use crate::told::Told;
 use driver_core::{Address, Astray, LogRequest, Registry, Settings, View};
-use frame_codec::{Frames, Packet};
+use frame_codec::Packet;
 use image_log::ImageRoom;
 use log_arena::Arena;
+use log_steps::{
+    Answer, Answered, Asks, Cause, Offered, OpenLog, PacketRequest, image_step, offer_asked,
+    packet_step, poll_step, send_own,
+};
 use rows::Rows;
 use std::alloc::{AllocError, Global};
 use std::marker::Model;
@@ -58,9 +49,9 @@ pub(crate) struct OpenLogs {
 }
 
 impl Model for OpenLogs {
-    ghost use Rattle.driver_steps.specs.Held.{HeldLogs, plots_of};
-    ghost use Rattle.driver_steps.specs.Packets.{IsForFirst, content_move};
-    ghost use Rattle.driver_steps.specs.Plots.{AreHoused};
+    ghost use Rattle.driver_steps.specs.OpenLogs.{HeldLogs, plots_of, IsForFirst};
+    ghost use Rattle.log_steps.specs.Packets.{content_move};
+    ghost use Rattle.log_steps.specs.Plots.{AreHoused};
     ghost use Rattle.std.specs.Vec.{vec_capacity};
 
     ghost Value = { HeldLogs };
@@ -78,7 +69,7 @@ impl Model for OpenLogs {
 fn place_of(logs: &[OpenLog], source: u64) -> Option<usize>
     ensures { result ≡ place_at logs.now source }
 {
-    logs.iter().position(|open| open.source == source)
+    logs.iter().position(|open| open.source() == source)
 }
 
 /// Whether the source is one of those that close.
@@ -189,7 +180,7 @@ impl OpenLogs {
     {
         let mut at = 0;
         while at < self.logs.len() {
-            if is_closed(closes, self.logs[at].source) {
+            if is_closed(closes, self.logs[at].source()) {
                 self.close_at(at);
             } else {
                 at += 1;
@@ -212,7 +203,7 @@ impl OpenLogs {
         ensures { self.new ≡ record self.old { logs = map (rejoined_held (all_pairs registry.now)) self.old.logs } }
     {
         for at in 0..self.logs.len() {
-            registry.readers(self.logs[at].source, room);
+            registry.readers(self.logs[at].source(), room);
             self.rejoin_at(at, room.as_slice());
         }
     }
@@ -228,13 +219,13 @@ impl OpenLogs {
         registration: u64,
         request: &LogRequest,
         message: &[u8],
-    ) -> Told
+    ) -> Answered
         requires { offering_of (V.shows view.now) client registration ≡ Some request.now }
         ensures moved { MovesFirst request.now.source (offer_move (V.shows view.now) now client registration message.now) (OfferedAs Closed) self.old self.new result.answer }
         ensures decides { DecidesFirst request.now.source (offer_decision (V.shows view.now) client registration) result.decision self.old }
     {
         let Some(at) = place_of(self.logs.as_slice(), request.source) else {
-            return Told {
+            return Answered {
                 answer: Answer::Offered(Offered::Closed),
                 decision: None,
             };
@@ -260,7 +251,7 @@ impl OpenLogs {
         client: u64,
         subscription: u64,
         limit: u32,
-    ) -> Result<Told, AllocError>
+    ) -> Result<Answered, AllocError>
         requires { A.is_right asker.old (V.shows view.now) }
         ensures moved { IfOk result (λ told. MovesFirst source (poll_move (V.shows view.now) client subscription limit) Gone self.old self.new told.answer) }
         ensures decides { IfOk result (λ told. DecidesFirst source (poll_decision (V.shows view.now) client subscription) told.decision self.old) }
@@ -269,7 +260,7 @@ impl OpenLogs {
         ensures right { A.is_right asker.new (V.shows view.now) }
     {
         let Some(at) = place_of(self.logs.as_slice(), source) else {
-            return Ok(Told {
+            return Ok(Answered {
                 answer: Answer::Gone,
                 decision: None,
             });
@@ -295,7 +286,7 @@ impl OpenLogs {
         from: &Address,
         packet: Packet<'_>,
         request: &PacketRequest,
-    ) -> Result<Told, AllocError>
+    ) -> Result<Answered, AllocError>
         requires { IsForFirst self.old.logs request.now.source (content packet) }
         ensures moved { IfOk result (λ told. MovesFirst request.now.source (content_move now from.now request.now.decision (content packet.entry)) unheard self.old self.new told.answer) }
         ensures decides { IfOk result (λ told. DecidesFirst request.now.source (λ log. request.now.decision) told.decision self.old) }
@@ -303,7 +294,7 @@ impl OpenLogs {
         ensures without_memory { OnErr result (GivesFirst request.now.source (content_move now from.now request.now.decision (content packet.entry)) self.old) }
     {
         let Some(at) = place_of(self.logs.as_slice(), request.source) else {
-            return Ok(Told {
+            return Ok(Answered {
                 answer: Answer::Dropped(Cause::Astray(Astray::NoStream)),
                 decision: None,
             });
@@ -311,27 +302,7 @@ impl OpenLogs {
         packet_step(&mut self.logs[at], alloc, now, from, packet, request)
     }
 
-    /// The frames of a datagram come to the first log of that source, as [`frames_step`] says.
-    #[inline(always)]
-    pub(crate) fn receive(
-        &mut self,
-        alloc: Global,
-        now: u64,
-        source: u64,
-        frames: Frames<'_>,
-    ) -> Result<Answer, AllocError>
-        requires { IsForFirst self.old.logs source (data_frames (frames_left frames)) }
-        ensures moved { IfOk result (λ answer. MovesFirst source (receive_move now (frames_left frames.entry)) unheard self.old self.new answer) }
-        ensures err { OnErr result (self.new ≡ self.old) }
-        ensures without_memory { OnErr result (GivesFirst source (receive_move now (frames_left frames.entry)) self.old) }
-    {
-        let Some(at) = place_of(self.logs.as_slice(), source) else {
-            return Ok(Answer::Dropped(Cause::Astray(Astray::NoStream)));
-        };
-        frames_step(&mut self.logs[at], alloc, now, source, frames)
-    }
-
-    /// The sender has a turn with the first log of that source, as [`send_step`] says.
+    /// The sender has a turn with the first log of that source, as [`send_own`] says.
     #[inline(always)]
     pub(crate) fn send<V: View>(
         &mut self,

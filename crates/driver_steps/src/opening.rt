@@ -1,56 +1,19 @@
 //! The log that comes with an event: that of a publication, or of an image.
 
 ghost use Rattle.driver_core.specs.Renewal.{source_at};
-ghost use Rattle.driver_steps.specs.Held.{IsOpening, OpensFor};
-ghost use Rattle.driver_steps.specs.Idents.{ident_of, kind_over, stream_ident};
-ghost use Rattle.driver_steps.specs.Opening.{CanOpen, HasRoom, IsMemoryFor, OpensNext, memory_of, place_of, room_of, room_of_setup};
+ghost use Rattle.driver_steps.specs.OpenLogs.{IsOpening, OpensFor};
+ghost use Rattle.driver_steps.specs.Opening.{CanOpen, HasRoom, IsMemoryFor, OpensNext, place_of, room_of};
+ghost use Rattle.log_steps.specs.Rooms.{memory_of, room_of_setup};
 ghost use Rattle.std.specs.Prelude.{◌≡◌, ◌<◌, IfOk, length};
 
 use crate::open_logs::OpenLogs;
-use channel_uri::Media;
 use driver_core::{Event, Registry, Settings};
 use frame_codec::Setup;
 use image_log::ImageRoom;
+use log_steps::{ident_of, stream_ident};
 use std::alloc::{AllocError, Global};
-use stream_registry::{LogPlace, Origin, Source};
-use term_log::{Ident, LogKind, LogRoom};
-
-/// Over datagrams, or in shared memory.
-fn kind_over(media: Media) -> LogKind
-    ensures { result ≡ kind_over media }
-{
-    match media {
-        Media::Ipc => LogKind::Ipc,
-        Media::Udp | Media::Counter => LogKind::Udp,
-    }
-}
-
-/// What the log of the publication is made for.
-pub fn ident_of(settings: Settings, publication: &Source) -> Ident
-    ensures { result ≡ ident_of settings publication.now }
-{
-    Ident {
-        kind: kind_over(publication.channel.media()),
-        session: publication.session,
-        stream: publication.stream,
-        initial_term: settings.initial_term,
-        term_length: publication.measures.term_length,
-        mtu: publication.measures.mtu,
-        start: 0,
-    }
-}
-
-/// The stream of the image, whose log began with that term.
-pub fn stream_ident(image: &Source, initial_term: i32) -> image_log::Ident
-    ensures { result ≡ stream_ident image.now initial_term }
-{
-    image_log::Ident {
-        session_id: image.session,
-        stream_id: image.stream,
-        initial_term_id: initial_term,
-        term_length: image.measures.term_length,
-    }
-}
+use stream_registry::{LogPlace, Origin};
+use term_log::LogRoom;
 
 /// The memory that a log takes.
 #[derive(Drop)]

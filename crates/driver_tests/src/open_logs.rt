@@ -1,8 +1,8 @@
 //! An open log by itself, as it moves from hand to hand.
 
 use driver_core::Settings;
-use driver_steps::OpenLog;
 use log_arena::Arena;
+use log_steps::OpenLog;
 use std::alloc::{AllocError, Global};
 use term_log::{Ident, LogKind, LogRoom};
 

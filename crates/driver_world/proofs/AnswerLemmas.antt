@@ -1,8 +1,8 @@
 -- Want of memory, and any other answer.
 use Rattle.std.proofs.Common.{◌≡◌, List, Option, refl}
-use Rattle.driver_steps.specs.declared.answer.Answer.{Answer}
-use Rattle.driver_steps.specs.declared.answer.Answer.TheVariants.{NoMemory, Attached, Full, Stopped, PolicyInForce, PolicyFull, Imaged, Unimaged, Dropped, Replies, Offered as OfferedAs, Polled, Gone as IsGone, Counters, Value as ValueIs, Denied, UnknownCounter, WrongClient, BadStep, Received, Heard, Limited, Elicited, Idle, Sent as SentTo, Resent, Reported}
-use Rattle.driver_steps.specs.Decided.{decided_unless, denials_unless}
+use Rattle.log_steps.specs.declared.answer.Answer.{Answer}
+use Rattle.log_steps.specs.declared.answer.Answer.TheVariants.{NoMemory, Attached, Full, Stopped, PolicyInForce, PolicyFull, Imaged, Unimaged, Dropped, Replies, Offered as OfferedAs, Polled, Gone as IsGone, Counters, Value as ValueIs, Denied, UnknownCounter, WrongClient, BadStep, Received, Heard, Limited, Elicited, Idle, Sent as SentTo, Resent, Reported}
+use Rattle.driver_steps.specs.EndDecisions.{decided_unless, denials_unless}
 use Rattle.driver_steps.specs.Ends.{RunEnd as DriverEnd, Moved as DriverMoved, IsAnswerOf as DriverAnswer, after_by as driver_after}
 use Rattle.driver_world.specs.declared.actor.Actor.{Actor}
 use Rattle.driver_world.specs.declared.seats.Seat.{Seat}

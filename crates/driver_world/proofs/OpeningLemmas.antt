@@ -1,7 +1,7 @@
 -- A world that was opened stands at the end of the empty run.
 use Rattle.std.proofs.Common.{◌≡◌, List, [], ap, ◌∙◌}
-use Rattle.driver_core.specs.declared.peer.Peer.{Peer}
-use Rattle.driver_core.specs.declared.settings.Settings.{Settings}
+use Rattle.driver_core.specs.declared.state.peer.Peer.{Peer}
+use Rattle.driver_core.specs.declared.state.settings.Settings.{Settings}
 use Rattle.driver_core.specs.State.{State}
 use Rattle.driver_steps.specs.Ends.{opening_end as driver_opening}
 use Rattle.driver_steps.specs.Standing.{Held as HeldDriver, StandsForEnd as DriverStands}

@@ -1,17 +1,17 @@
 -- Runs are put together of steps, and each run is one of its driver.
 use Rattle.std.proofs.Common.{◌≡◌, ℕ, Bool, true, false, if◌then◌else◌, List, [], ◌∷◌, ◌++◌, Option, Some, None, Result, Ok, Err, ◌⊎◌, inl, inr, ⊎_elim, refl, ap, subst, sym, ◌∙◌}
 use Rattle.channel_uri.specs.declared.address.Address.{Address}
-use Rattle.driver_core.specs.declared.peer.Peer.{Peer}
-use Rattle.driver_core.specs.declared.settings.Settings.{Settings}
+use Rattle.driver_core.specs.declared.state.peer.Peer.{Peer}
+use Rattle.driver_core.specs.declared.state.settings.Settings.{Settings}
 use Rattle.driver_core.specs.Conduct.{state_of}
 use Rattle.driver_core.specs.State.{State}
-use Rattle.driver_steps.specs.declared.answer.Answer.{Answer}
+use Rattle.log_steps.specs.declared.answer.Answer.{Answer}
 use Rattle.driver_steps.specs.declared.step.Step.{Step}
 use Rattle.driver_steps.specs.declared.step.Step.TheVariants as steps
 use Rattle.driver_steps.specs.Ends as driver
 use Rattle.driver_steps.specs.Laws.{event_in, event_of}
 use Rattle.driver_steps.specs.Runs as runs
-use Rattle.driver_steps.proofs.EndLemmas.{opening_is, reading_takes, state_of_both}
+use Rattle.driver_steps.proofs.EndLemmas.{moved_takes, opening_is, state_of_both}
 use Rattle.driver_world.specs.declared.actor.Actor.{Actor}
 use Rattle.driver_world.specs.declared.actor.Actor.TheVariants.{Client, Conductor, Receiver, Sender}
 use Rattle.driver_world.specs.declared.reading.Reading.{Reading}
@@ -100,8 +100,8 @@ IsNewest e = e.driver.registry ≡ state_of e.past.opened e.past.taken
 pub record OfDriver (e : RunEnd) (what : Moved) : Type 0 where
   older : Option State
   step : Step
-  answer : what.answer ≡ (runs.moved_by e.driver older step).answer
-  after : what.after.driver ≡ (runs.moved_by e.driver older step).after
+  answer : what.answer ≡ (driver.moved_by (runs.read_by e.driver older) e.driver step).answer
+  after : what.after.driver ≡ (driver.moved_by (runs.read_by e.driver older) e.driver step).after
 
 -- nothing is changed, or it is one of the driver; and the newest registry is still what the events left
 pub record Goes (e : RunEnd) (what : Moved) : Type 0 where
@@ -115,7 +115,7 @@ goes_on : (e : RunEnd) (step : Step) → Goes e (conducted e step)
 goes_on e step = record {
   kind = inr (record { older = None; step = step; answer = refl; after = refl });
   newest = λ is.
-      reading_takes e.driver None step
+      moved_takes e.driver.registry e.driver step
       ∙ ap (λ (s : State). state_of s (event_of e.driver step)) is
       ∙ sym (state_of_both e.past.opened e.past.taken (event_of e.driver step));
 }
@@ -145,7 +145,7 @@ goes_by : (e : RunEnd) (actor : Actor) (k moment : ℕ) (step : Step) → Looks 
 goes_by e actor k moment step looks = record {
   kind = inr (record { older = older_at e.past k; step = at_moment moment step; answer = refl; after = refl });
   newest = λ is.
-      reading_takes e.driver (older_at e.past k) (at_moment moment step)
+      moved_takes (runs.read_by e.driver (older_at e.past k)) e.driver (at_moment moment step)
       ∙ ap (state_of e.driver.registry) (no_event e.driver moment step looks)
       ∙ is;
 }
@@ -170,17 +170,17 @@ goes_as e (Client id) view step is = goes_at e (Client id) (view_or (newest_of e
 Leaves : (e : RunEnd) (what : Moved) → OfDriver e what → Answer → Type 0
 Leaves e what of answer =
     IsAnswerOf what answer →
-    driver.IsAnswerOf (runs.moved_by e.driver of.older of.step) answer
-    × ((after_by e what answer).driver ≡ driver.after_by e.driver (runs.moved_by e.driver of.older of.step) answer)
+    driver.IsAnswerOf (driver.moved_by (runs.read_by e.driver of.older) e.driver of.step) answer
+    × ((after_by e what answer).driver ≡ driver.after_by e.driver (driver.moved_by (runs.read_by e.driver of.older) e.driver of.step) answer)
 
 leaves : (e : RunEnd) (what : Moved) (of : OfDriver e what) (answer : Answer) → Leaves e what of answer
 unfolding Leaves
 leaves e what of answer =
     by_answer (Leaves e what of) (λ is. (tt, refl))
     (λ one other is. (
-      other.for_driver (runs.moved_by e.driver of.older of.step) (other.worlds what is ∙ of.answer),
+      other.for_driver (driver.moved_by (runs.read_by e.driver of.older) e.driver of.step) (other.worlds what is ∙ of.answer),
       ap (λ (end : RunEnd). end.driver) (other.left e what) ∙ of.after
-          ∙ sym (other.driver_left e.driver (runs.moved_by e.driver of.older of.step)),
+          ∙ sym (other.driver_left e.driver (driver.moved_by (runs.read_by e.driver of.older) e.driver of.step)),
     ))
     answer
 

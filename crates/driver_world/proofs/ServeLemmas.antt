@@ -2,35 +2,34 @@
 -- told what was decided.
 use Rattle.std.proofs.Common.{◌≡◌, ℕ, ◌+◌, ◌==◌, max, false, true, List, [], ◌∷◌, ◌++◌, length-append, Option, Some, None, Result, Ok, Err, ⊎_elim, refl, sym, ap, subst, ◌∙◌}
 use Rattle.channel_uri.specs.declared.address.Address.{Address}
-use Rattle.driver_core.specs.declared.event.Event.{Event}
-use Rattle.driver_core.specs.declared.event.Event.TheVariants.{Setup as SetUp}
-use Rattle.driver_core.specs.declared.event.Inputs.{Inputs}
-use Rattle.driver_core.specs.declared.outcome.Outcome.{Outcome}
-use Rattle.driver_core.specs.declared.outcome.Response.{Response}
-use Rattle.driver_core.specs.declared.outcome.Response.TheVariants as response
-use Rattle.driver_core.specs.declared.replies.Message.{Message}
+use Rattle.driver_core.specs.declared.state.event.Event.{Event}
+use Rattle.driver_core.specs.declared.state.event.Event.TheVariants.{Setup as SetUp}
+use Rattle.driver_core.specs.declared.state.event.Inputs.{Inputs}
+use Rattle.driver_core.specs.declared.state.outcome.Outcome.{Outcome}
+use Rattle.driver_core.specs.declared.state.outcome.Response.{Response}
+use Rattle.driver_core.specs.declared.state.outcome.Response.TheVariants as response
+use Rattle.driver_core.specs.declared.state.replies.Message.{Message}
 use Rattle.driver_core.specs.Conduct.{outcome_of}
 use Rattle.driver_core.specs.LeftOut.{left_out}
 use Rattle.driver_core.specs.Listing.{value}
 use Rattle.driver_core.specs.State.{State}
-use Rattle.driver_steps.specs.declared.answer.Answer.{Answer}
-use Rattle.driver_steps.specs.declared.answer.Answer.TheVariants.{BadStep, NoMemory}
+use Rattle.log_steps.specs.declared.answer.Answer.{Answer}
+use Rattle.log_steps.specs.declared.answer.Answer.TheVariants.{BadStep, NoMemory}
 use Rattle.driver_steps.specs.declared.step.Step.{Step}
 use Rattle.driver_steps.specs.declared.step.Step.TheVariants.{Conductor as Conducts, Packet, Offer, Poll, Send, Image, List as Lists, Value}
-use Rattle.driver_steps.specs.declared.told.Came.TheVariants as came
-use Rattle.driver_steps.specs.declared.told.Told.{Told}
-use Rattle.driver_steps.specs.Answers.{answer_of, answered_by}
-use Rattle.driver_steps.specs.Coming.{ComesAs, content_decided}
-use Rattle.driver_steps.specs.Decided.{DecidesAs, DecidesUnless, LeavesOut, decided_unless, denials_unless, offer_decided, poll_decided, shown_decision}
-use Rattle.driver_steps.specs.Ends.{RunEnd as DriverEnd, IsAnswerOf as DriverAnswers, after_by as driver_after, conducted as driver_conducted, inputs_of, log_at, moved as driver_moved, moved_on, on_log, on_packet}
-use Rattle.driver_steps.specs.Held.{inputs_held}
+use Rattle.log_steps.specs.declared.answered.Came.TheVariants as came
+use Rattle.log_steps.specs.declared.answered.Answered.{Answered}
+use Rattle.log_steps.specs.Answers.{answer_of, answered_by}
+use Rattle.driver_steps.specs.Coming.{Comes, ComesAs, content_decided}
+use Rattle.driver_steps.specs.EndDecisions.{DecidesAs, DecidesUnless, LeavesOut, decided_unless, denials_unless, offer_decided, poll_decided, under}
+use Rattle.log_steps.specs.Decided.{shown_decision}
+use Rattle.driver_steps.specs.Ends.{after_by as driver_after, conducted as driver_conducted, inputs_of, IsAnswerOf as DriverAnswers, log_at, looks_at, moved as driver_moved, moved_by, moved_on, on_log, on_packet, RunEnd as DriverEnd}
+use Rattle.driver_steps.specs.OpenLogs.{inputs_held}
 use Rattle.driver_steps.specs.Laws.{event_in}
-use Rattle.driver_steps.specs.Memory.{HasMemoryBy}
-use Rattle.driver_steps.specs.Moves.{Move, WholeLog}
-use Rattle.driver_steps.specs.Reads.{ComesRead, Reads, held_seen, looks_at, reads_take}
-use Rattle.driver_steps.specs.Runs.{moved_by, read_by}
-use Rattle.driver_steps.specs.Sending.{send_move}
-use Rattle.driver_steps.specs.Seen.{ComesSeenAs, Sees}
+use Rattle.driver_steps.specs.StepMemory.{HasMemory, HasMemoryBy}
+use Rattle.log_steps.specs.Moves.{Move, WholeLog}
+use Rattle.driver_steps.specs.Runs.{read_by}
+use Rattle.log_steps.specs.Sending.{send_move}
 use Rattle.driver_steps.specs.Standing.{Held as HeldDriver, StandsForEnd as DriverStands, Serves as DriverServes, Takes}
 use Rattle.driver_steps.proofs.TakeLemmas.{inputs_stand}
 use Rattle.driver_world.specs.declared.actor.Actor.{Actor}
@@ -127,14 +126,14 @@ not_looked held actor view step answer is looks none =
 pub record Keeps (old : Held) (left : Audits) (older : Option State) (step : Step) (answer : Answer) (e : RunEnd) : Type 0 where
   pub refused : answer ≡ NoMemory → left ≡ old.audits
   pub told :
-      Other answer → answer ≡ (moved_by e.driver older step).answer →
+      Other answer → answer ≡ (moved_by (read_by e.driver older) e.driver step).answer →
       left ≡ kept_all (decided_by (seen_by e.driver older) step e.decided)
 
 -- so the world serves
 Serving : (old : Held) (driver : HeldDriver) (left : Audits) (actor : Actor) (k : ℕ) (step : Step) (e : RunEnd) → Answer → Type 0
 Serving old driver left actor k step e answer =
-    DriverAnswers (moved_by e.driver (older_at e.past k) step) answer →
-    DriverStands driver (driver_after e.driver (moved_by e.driver (older_at e.past k) step) answer) →
+    DriverAnswers (moved_by (read_by e.driver (older_at e.past k)) e.driver step) answer →
+    DriverStands driver (driver_after e.driver (moved_by (read_by e.driver (older_at e.past k)) e.driver step) answer) →
     Keeps old left (older_at e.past k) step answer e →
     IsAnswerOf (looked e actor k step) answer
     × StandsForEnd (record {
@@ -151,9 +150,9 @@ serving old driver left actor k step e stands answer =
     by_answer (Serving old driver left actor k step e)
     (λ is there keeps. (tt, record { driver = there; audits = keeps.refused refl ∙ stands.audits; past = stands.past; seats = stands.seats }))
     (λ one other is there keeps.
-    let same : one ≡ (moved_by e.driver (older_at e.past k) step).answer = other.drivers (moved_by e.driver (older_at e.past k) step) is in
-    let stays : DriverStands driver (moved_by e.driver (older_at e.past k) step).after =
-    subst (λ (d : DriverEnd). DriverStands driver d) (other.driver_left e.driver (moved_by e.driver (older_at e.past k) step)) there in (
+    let same : one ≡ (moved_by (read_by e.driver (older_at e.past k)) e.driver step).answer = other.drivers (moved_by (read_by e.driver (older_at e.past k)) e.driver step) is in
+    let stays : DriverStands driver (moved_by (read_by e.driver (older_at e.past k)) e.driver step).after =
+    subst (λ (d : DriverEnd). DriverStands driver d) (other.driver_left e.driver (moved_by (read_by e.driver (older_at e.past k)) e.driver step)) there in (
       other.for_world (looked e actor k step) same,
       subst (λ (next : RunEnd). StandsForEnd (record {
         driver = driver;
@@ -173,10 +172,16 @@ serving old driver left actor k step e stands answer =
     answer
 
 -- the driver's memory
-takes_memory : (e : RunEnd) (step : Step) (answer : Answer) (older : Option State) → reads_take older e.driver step answer →
-    looked_has e step answer older
+takes_memory : (e : RunEnd) (step : Step) (answer : Answer) (older : Option State) →
+    HasMemory (read_by e.driver older) e.driver step answer → looked_has e step answer older
 takes_memory e step answer None has = has
 takes_memory e step answer (Some older) has = tt
+
+-- by the registry that is looked at, as the end has it
+served_by : (old new : HeldDriver) (older : Option State) (step : Step) (answer : Answer) (e : DriverEnd) → DriverStands old e →
+    DriverServes (looks_at old.registry older) old new step answer → DriverServes (read_by e older) old new step answer
+served_by old new older step answer e stands serves =
+    subst (λ (s : State). DriverServes (looks_at s older) old new step answer) stands.registry serves
 
 -- the world of which that is left
 abbrev pub left_of : Held → HeldDriver → Audits → Held
@@ -184,53 +189,51 @@ left_of old driver left = record old { driver = driver; audits = left }
 
 pub looked_served : (old new : Held) (driver : HeldDriver) (left : Audits) (actor : Actor) (view : Option ℕ) (step : Step) (look : Look)
     (answer : Answer) → actor_of step ≡ actor → Looks actor → IsLook old.past (seat_of actor old.seats) view look →
-    Reads (shown_state look.older) old.driver driver (at_moment look.moment step) answer →
+    DriverServes (looks_at old.driver.registry (shown_state look.older)) old.driver driver (at_moment look.moment step) answer →
     ((e : RunEnd) → StandsForEnd old e → Keeps old left (shown_state look.older) (at_moment look.moment step) answer e) →
     Sits (left_of old driver left) new actor look.view (moment_of (at_moment look.moment step)) answer →
     Serves old new (record { view = view; step = step }) answer
 unfolding Serving
-looked_served old new driver left actor view step look answer actor_is looks is reads keeps sits = record {
+looked_served old new driver left actor view step look answer actor_is looks is serves keeps sits = record {
   on = λ e stands.
       let here : IsLook e.past (seat_of actor e.seats) view look = rw (← stands.past, ← stands.seats) is in
       let comes : moved e (record { view = view; step = step }) ≡ looked e actor look.view (at_moment look.moment step) =
       rw actor_is (looked_there e actor view step look looks here) in
-      let done = reads.on e.driver stands.driver in
+      let there = served_by old.driver driver (shown_state look.older) (at_moment look.moment step) answer e.driver stands.driver serves in
+      let done = there.on e.driver stands.driver in
       let kept : Keeps old left (older_at e.past look.view) (at_moment look.moment step) answer e = rw (← here.older_is) (keeps e stands) in
       let served = serving old driver left actor look.view (at_moment look.moment step) e stands answer
       (rw (← here.older_is) done.0) (rw (← here.older_is) done.1) kept in
       rw (comes, sits) served;
   without_memory = λ e stands.
       let here : IsLook e.past (seat_of actor e.seats) view look = rw (← stands.past, ← stands.seats) is in
+      let there = served_by old.driver driver (shown_state look.older) (at_moment look.moment step) answer e.driver stands.driver serves in
       rw actor_is
       (has_there e actor view step look answer looks here
-      (takes_memory e (at_moment look.moment step) answer (shown_state look.older) (reads.without_memory e.driver stands.driver)));
+      (takes_memory e (at_moment look.moment step) answer (shown_state look.older)
+      (there.without_memory e.driver stands.driver)));
 }
 
 -- ---- what its actor sees
 
-seen_stands : (held : HeldDriver) (older : Option State) (e : DriverEnd) → DriverStands held e →
-    DriverStands (held_seen held older) (seen_by e older)
-seen_stands held None e stands = record { registry = stands.registry; logs = stands.logs }
-seen_stands held (Some older) e stands = record { registry = refl; logs = stands.logs }
+-- the driver under the registry that is looked at
+abbrev seen_held : HeldDriver → Option State → HeldDriver
+seen_held held older = under held (looks_at held.registry older)
 
-seen_state : (held : HeldDriver) (older : Option State) (e : DriverEnd) → DriverStands held e → looks_at held older ≡ read_by e older
-seen_state held None e stands = stands.registry
-seen_state held (Some older) e stands = refl
+seen_stands : (held : HeldDriver) (older : Option State) (e : DriverEnd) → DriverStands held e →
+    DriverStands (seen_held held older) (seen_by e older)
+seen_stands held older e stands =
+    record { registry = ap (λ (s : State). looks_at s older) stands.registry; logs = stands.logs }
 
 -- ---- an offer
 
 wants : (answer : Answer) → HasMemoryBy false answer → answer ≡ NoMemory → ⊥
 wants answer has is = let no : HasMemoryBy false NoMemory = subst (HasMemoryBy false) is has in absurd (cc)
 
-offer_wants : (older : Option State) (e : DriverEnd) (now client registration : ℕ) (message : List ℕ) (answer : Answer) →
-    reads_take older e (Offer now client registration message) answer → answer ≡ NoMemory → ⊥
-offer_wants None e now client registration message answer has is = wants answer has is
-offer_wants (Some older) e now client registration message answer has is = wants answer has is
-
 pub offer_served : (old new : Held) (driver : HeldDriver) (left : Audits) (view : Option ℕ) (now client registration : ℕ) (message : List ℕ)
     (look : Look) (answer : Answer) (decision : Option Decision) → IsLook old.past (seat_of (Client client) old.seats) view look →
-    Reads (shown_state look.older) old.driver driver (Offer (max now look.moment) client registration message) answer →
-    DecidesAs (held_seen old.driver (shown_state look.older)) (λ e. offer_decided e client registration) decision →
+    DriverServes (looks_at old.driver.registry (shown_state look.older)) old.driver driver (Offer (max now look.moment) client registration message) answer →
+    DecidesAs (seen_held old.driver (shown_state look.older)) (λ e. offer_decided e client registration) decision →
     Tells old.audits left (told_one (Client client) decision) →
     Sits (left_of old driver left) new (Client client) look.view (max now look.moment) answer →
     Serves old new (record { view = view; step = Offer now client registration message }) answer
@@ -238,7 +241,7 @@ unfolding decided_by
 offer_served old new driver left view now client registration message look answer decision is reads decides tells sits =
     looked_served old new driver left (Client client) view (Offer now client registration message) look answer refl tt is reads
     (λ e stands. record {
-      refused = λ no. absurd (offer_wants (shown_state look.older) e.driver (max now look.moment) client registration message answer (reads.without_memory e.driver stands.driver) no);
+      refused = λ no. absurd (wants answer (reads.without_memory e.driver stands.driver) no);
       told = λ other same.
           rw (← decides.on (seen_by e.driver (shown_state look.older)) (seen_stands old.driver (shown_state look.older) e.driver stands.driver)) (tells.on e.decided stands.audits);
     })
@@ -252,8 +255,8 @@ told_nothing answer decision what is same = is ∙ ap (λ a. decided_unless a wh
 
 pub poll_served : (old new : Held) (driver : HeldDriver) (left : Audits) (view : Option ℕ) (now client subscription source limit : ℕ)
     (look : Look) (answer : Answer) (decision : Option Decision) → IsLook old.past (seat_of (Client client) old.seats) view look →
-    Reads (shown_state look.older) old.driver driver (Poll (max now look.moment) client subscription source limit) answer →
-    DecidesUnless (held_seen old.driver (shown_state look.older)) (λ e. poll_decided e client subscription source) answer decision →
+    DriverServes (looks_at old.driver.registry (shown_state look.older)) old.driver driver (Poll (max now look.moment) client subscription source limit) answer →
+    DecidesUnless (seen_held old.driver (shown_state look.older)) (λ e. poll_decided e client subscription source) answer decision →
     Tells old.audits left (told_one (Client client) decision) →
     Sits (left_of old driver left) new (Client client) look.view (max now look.moment) answer →
     Serves old new (record { view = view; step = Poll now client subscription source limit }) answer
@@ -285,8 +288,8 @@ told_none client all = ap (λ clients. record all { clients = clients }) (untold
 
 pub list_served : (old new : Held) (left : Audits) (view : Option ℕ) (now client : ℕ) (look : Look) (answer : Answer) (denials : List Decision) →
     IsLook old.past (seat_of (Client client) old.seats) view look →
-    Reads (shown_state look.older) old.driver old.driver (Lists (max now look.moment) client) answer →
-    LeavesOut (looks_at old.driver (shown_state look.older)) client answer denials → Tells old.audits left (told (Client client) denials) →
+    DriverServes (looks_at old.driver.registry (shown_state look.older)) old.driver old.driver (Lists (max now look.moment) client) answer →
+    LeavesOut (looks_at old.driver.registry (shown_state look.older)) client answer denials → Tells old.audits left (told (Client client) denials) →
     Sits (left_of old old.driver left) new (Client client) look.view (max now look.moment) answer →
     Serves old new (record { view = view; step = Lists now client }) answer
 unfolding decided_by
@@ -295,7 +298,7 @@ list_served old new left view now client look answer denials is reads leaves tel
     (λ e stands.
     let s : State = read_by e.driver (shown_state look.older) in
     let is_left : denials ≡ denials_unless answer (left_out s client) =
-    leaves ∙ ap (λ (r : State). denials_unless answer (left_out r client)) (seen_state old.driver (shown_state look.older) e.driver stands.driver) in
+    leaves ∙ ap (λ (r : State). denials_unless answer (left_out r client)) (ap (λ (r : State). looks_at r (shown_state look.older)) stands.driver.registry) in
     record {
       refused = λ no.
           let none : denials ≡ [] = denied_nothing answer denials (left_out s client) is_left no in
@@ -307,15 +310,10 @@ list_served old new left view now client look answer denials is reads leaves tel
     })
     sits
 
-value_wants : (older : Option State) (e : DriverEnd) (now client number : ℕ) (answer : Answer) →
-    reads_take older e (Value now client number) answer → answer ≡ NoMemory → ⊥
-value_wants None e now client number answer has is = wants answer has is
-value_wants (Some older) e now client number answer has is = wants answer has is
-
 pub value_served : (old new : Held) (left : Audits) (view : Option ℕ) (now client number : ℕ) (look : Look) (answer : Answer)
     (decision : Option Decision) → IsLook old.past (seat_of (Client client) old.seats) view look →
-    Reads (shown_state look.older) old.driver old.driver (Value (max now look.moment) client number) answer →
-    decision ≡ shown_decision (value (looks_at old.driver (shown_state look.older)) client number) →
+    DriverServes (looks_at old.driver.registry (shown_state look.older)) old.driver old.driver (Value (max now look.moment) client number) answer →
+    decision ≡ shown_decision (value (looks_at old.driver.registry (shown_state look.older)) client number) →
     Tells old.audits left (told_one (Client client) decision) →
     Sits (left_of old old.driver left) new (Client client) look.view (max now look.moment) answer →
     Serves old new (record { view = view; step = Value now client number }) answer
@@ -323,11 +321,11 @@ unfolding decided_by
 value_served old new left view now client number look answer decision is reads decides tells sits =
     looked_served old new old.driver left (Client client) view (Value now client number) look answer refl tt is reads
     (λ e stands. record {
-      refused = λ no. absurd (value_wants (shown_state look.older) e.driver (max now look.moment) client number answer (reads.without_memory e.driver stands.driver) no);
+      refused = λ no. absurd (wants answer (reads.without_memory e.driver stands.driver) no);
       told = λ other same.
           tells.on e.decided stands.audits
           ∙ ap (λ d. kept_all (told_one (Client client) d e.decided))
-          (decides ∙ ap (λ (s : State). shown_decision (value s client number)) (seen_state old.driver (shown_state look.older) e.driver stands.driver));
+          (decides ∙ ap (λ (s : State). shown_decision (value s client number)) (ap (λ (r : State). looks_at r (shown_state look.older)) stands.driver.registry));
     })
     sits
 
@@ -340,14 +338,14 @@ turn_answered older e source move absent None = refl
 turn_answered older e source move absent (Some log) = refl
 
 sent_seen : (older : Option State) (e : DriverEnd) (now source : ℕ) →
-    (driver_moved (seen_by e older) (Send now source)).answer ≡ (moved_by e older (Send now source)).answer
+    (driver_moved (seen_by e older) (Send now source)).answer ≡ (moved_by (read_by e older) e (Send now source)).answer
 unfolding on_log
-sent_seen None e now source = refl
-sent_seen (Some older) e now source = turn_answered older e source (send_move older now) _ (log_at e.logs source)
+sent_seen older e now source =
+    turn_answered (read_by e older) e source (send_move (read_by e older) now) _ (log_at e.logs source)
 
 pub send_served : (old new : Held) (driver : HeldDriver) (left : Audits) (view : Option ℕ) (now source : ℕ) (look : Look) (answer : Answer) →
     IsLook old.past (seat_of Sender old.seats) view look →
-    Reads (shown_state look.older) old.driver driver (Send (max now look.moment) source) answer → Tells old.audits left (told_sent answer) →
+    DriverServes (looks_at old.driver.registry (shown_state look.older)) old.driver driver (Send (max now look.moment) source) answer → Tells old.audits left (told_sent answer) →
     Sits (left_of old driver left) new Sender look.view (max now look.moment) answer →
     Serves old new (record { view = view; step = Send now source }) answer
 unfolding decided_by
@@ -365,7 +363,7 @@ send_served old new driver left view now source look answer is reads tells sits 
 
 pub report_served : (old new : Held) (driver : HeldDriver) (view : Option ℕ) (now source : ℕ) (look : Look) (answer : Answer) →
     IsLook old.past (seat_of Receiver old.seats) view look →
-    Reads (shown_state look.older) old.driver driver (Image (max now look.moment) source) answer →
+    DriverServes (looks_at old.driver.registry (shown_state look.older)) old.driver driver (Image (max now look.moment) source) answer →
     Sits (left_of old driver old.audits) new Receiver look.view (max now look.moment) answer →
     Serves old new (record { view = view; step = Image now source }) answer
 unfolding decided_by
@@ -453,12 +451,12 @@ event_bad held k event = record { on = λ e stands. (refl, stands); without_memo
 packet_conducted : RunEnd → ℕ → Address → Address → Result Content BadPacket → Moved
 packet_conducted e now local from read = record {
   after = record {
-    driver = (on_packet e.driver now local from read).after;
+    driver = (on_packet e.driver.registry e.driver now local from read).after;
     decided = decided_by_content e.driver now local from read e.decided;
     past = record e.past { taken = e.past.taken ++ event_in e.driver now local from read };
     seats = seats_by e (event_in e.driver now local from read);
   };
-  answer = (on_packet e.driver now local from read).answer;
+  answer = (on_packet e.driver.registry e.driver now local from read).answer;
 }
 
 setup_conducted : (e : RunEnd) (now : ℕ) (local from : Address) (bytes : List ℕ) (fields : Setup) → packet_of bytes ≡ Ok (setup fields) →
@@ -487,80 +485,49 @@ setup_told old new view now local from bytes fields answer is serves = record {
 }
 
 -- no other comes to an event
-never_as : (old new : HeldDriver) (now : ℕ) (local from : Address) (bytes : List ℕ) (read : Result Content BadPacket) (fields : Setup) →
-    ComesAs old new now local from bytes read (came.SetUp fields) → Looks (reader_of read) → ⊥
-never_as old new now local from bytes (Err fault) fields comes looks = comes
-never_as old new now local from bytes (Ok (frames sent)) fields comes looks = comes
-never_as old new now local from bytes (Ok (beat header)) fields comes looks = comes
-never_as old new now local from bytes (Ok (nak given)) fields comes looks = comes
-never_as old new now local from bytes (Ok (status given)) fields comes looks = comes
-never_as old new now local from bytes (Ok (setup given)) fields comes looks = looks
+never_as : (shown : State) (old new : HeldDriver) (now : ℕ) (local from : Address) (bytes : List ℕ) (read : Result Content BadPacket)
+    (fields : Setup) → ComesAs shown old new now local from bytes read (came.SetUp fields) → Looks (reader_of read) → ⊥
+never_as shown old new now local from bytes (Err fault) fields comes looks = comes
+never_as shown old new now local from bytes (Ok (frames sent)) fields comes looks = comes
+never_as shown old new now local from bytes (Ok (beat header)) fields comes looks = comes
+never_as shown old new now local from bytes (Ok (nak given)) fields comes looks = comes
+never_as shown old new now local from bytes (Ok (status given)) fields comes looks = comes
+never_as shown old new now local from bytes (Ok (setup given)) fields comes looks = looks
 
-never_seen : (older : State) (old new : HeldDriver) (now : ℕ) (local from : Address) (bytes : List ℕ) (read : Result Content BadPacket)
-    (fields : Setup) → ComesSeenAs older old new now local from bytes read (came.SetUp fields) → Looks (reader_of read) → ⊥
-never_seen older old new now local from bytes (Err fault) fields comes looks = comes
-never_seen older old new now local from bytes (Ok (frames sent)) fields comes looks = comes
-never_seen older old new now local from bytes (Ok (beat header)) fields comes looks = comes
-never_seen older old new now local from bytes (Ok (nak given)) fields comes looks = comes
-never_seen older old new now local from bytes (Ok (status given)) fields comes looks = comes
-never_seen older old new now local from bytes (Ok (setup given)) fields comes looks = looks
-
-pub never_set_up : (older : Option State) (old new : HeldDriver) (now : ℕ) (local from : Address) (bytes : List ℕ) (fields : Setup) →
-    ComesRead older old new now local from bytes (came.SetUp fields) → Looks (reader_of (packet_of bytes)) → ⊥
-never_set_up None old new now local from bytes fields comes looks = never_as old new now local from bytes (packet_of bytes) fields comes looks
-never_set_up (Some older) old new now local from bytes fields comes looks =
-    never_seen older old new now local from bytes (packet_of bytes) fields comes looks
+pub never_set_up : (shown : State) (old new : HeldDriver) (now : ℕ) (local from : Address) (bytes : List ℕ) (fields : Setup) →
+    Comes shown old new now local from bytes (came.SetUp fields) → Looks (reader_of (packet_of bytes)) → ⊥
+never_set_up shown old new now local from bytes fields comes looks =
+    never_as shown old new now local from bytes (packet_of bytes) fields comes looks
 
 -- what is told of any other
-record CameAs (older : Option State) (old new : HeldDriver) (now : ℕ) (local from : Address) (bytes : List ℕ) (told : Told)
+record CameAs (shown : State) (old new : HeldDriver) (now : ℕ) (local from : Address) (bytes : List ℕ) (told : Answered)
     (read : Result Content BadPacket) : Type 0 where
-  reads : Reads older old new (Packet now local from bytes) told.answer
-  decides : DecidesUnless (held_seen old older) (λ e. content_decided e from read) told.answer told.decision
+  serves : DriverServes shown old new (Packet now local from bytes) told.answer
+  decides : DecidesUnless (under old shown) (λ e. content_decided e from read) told.answer told.decision
   by :
       (e : DriverEnd) (all : Decided) →
       decided_by_content e now local from read all ≡ told_one Sender (content_decided e from read) all
 
-as_reads : (old new : HeldDriver) (step : Step) (answer : Answer) → DriverServes old new step answer → Reads None old new step answer
-as_reads old new step answer serves = record { on = serves.on; without_memory = serves.without_memory }
-
-as_seen : (older : State) (old new : HeldDriver) (step : Step) (answer : Answer) → Sees older old new step answer →
-    Reads (Some older) old new step answer
-as_seen older old new step answer sees = record { on = sees.on; without_memory = sees.without_memory }
-
-came_as : (old new : HeldDriver) (now : ℕ) (local from : Address) (bytes : List ℕ) (read : Result Content BadPacket) (told : Told) →
-    ComesAs old new now local from bytes read (came.Told told) → CameAs None old new now local from bytes told read
-came_as old new now local from bytes (Err fault) told comes = record { reads = as_reads old new _ told.answer comes.0; decides = comes.1; by = λ e all. refl }
-came_as old new now local from bytes (Ok (frames sent)) told comes = record { reads = as_reads old new _ told.answer comes.0; decides = comes.1; by = λ e all. refl }
-came_as old new now local from bytes (Ok (beat header)) told comes = record { reads = as_reads old new _ told.answer comes.0; decides = comes.1; by = λ e all. refl }
-came_as old new now local from bytes (Ok (nak given)) told comes = record { reads = as_reads old new _ told.answer comes.0; decides = comes.1; by = λ e all. refl }
-came_as old new now local from bytes (Ok (status given)) told comes = record { reads = as_reads old new _ told.answer comes.0; decides = comes.1; by = λ e all. refl }
-came_as old new now local from bytes (Ok (setup given)) told comes = absurd (cc comes.0)
-
-came_seen : (older : State) (old new : HeldDriver) (now : ℕ) (local from : Address) (bytes : List ℕ) (read : Result Content BadPacket) (told : Told) →
-    ComesSeenAs older old new now local from bytes read (came.Told told) → CameAs (Some older) old new now local from bytes told read
-came_seen older old new now local from bytes (Err fault) told comes = record { reads = as_seen older old new _ told.answer comes.0; decides = comes.1; by = λ e all. refl }
-came_seen older old new now local from bytes (Ok (frames sent)) told comes = record { reads = as_seen older old new _ told.answer comes.0; decides = comes.1; by = λ e all. refl }
-came_seen older old new now local from bytes (Ok (beat header)) told comes = record { reads = as_seen older old new _ told.answer comes.0; decides = comes.1; by = λ e all. refl }
-came_seen older old new now local from bytes (Ok (nak given)) told comes = record { reads = as_seen older old new _ told.answer comes.0; decides = comes.1; by = λ e all. refl }
-came_seen older old new now local from bytes (Ok (status given)) told comes = record { reads = as_seen older old new _ told.answer comes.0; decides = comes.1; by = λ e all. refl }
-came_seen older old new now local from bytes (Ok (setup given)) told comes = absurd (cc comes.0)
-
-came_told : (older : Option State) (old new : HeldDriver) (now : ℕ) (local from : Address) (bytes : List ℕ) (told : Told) →
-    ComesRead older old new now local from bytes (came.Told told) → CameAs older old new now local from bytes told (packet_of bytes)
-came_told None old new now local from bytes told comes = came_as old new now local from bytes (packet_of bytes) told comes
-came_told (Some older) old new now local from bytes told comes = came_seen older old new now local from bytes (packet_of bytes) told comes
+came_as : (shown : State) (old new : HeldDriver) (now : ℕ) (local from : Address) (bytes : List ℕ) (read : Result Content BadPacket) (told : Answered) →
+    ComesAs shown old new now local from bytes read (came.Answered told) → CameAs shown old new now local from bytes told read
+came_as shown old new now local from bytes (Err fault) told comes = record { serves = comes.0; decides = comes.1; by = λ e all. refl }
+came_as shown old new now local from bytes (Ok (frames sent)) told comes = record { serves = comes.0; decides = comes.1; by = λ e all. refl }
+came_as shown old new now local from bytes (Ok (beat header)) told comes = record { serves = comes.0; decides = comes.1; by = λ e all. refl }
+came_as shown old new now local from bytes (Ok (nak given)) told comes = record { serves = comes.0; decides = comes.1; by = λ e all. refl }
+came_as shown old new now local from bytes (Ok (status given)) told comes = record { serves = comes.0; decides = comes.1; by = λ e all. refl }
+came_as shown old new now local from bytes (Ok (setup given)) told comes = absurd (cc comes.0)
 
 pub packet_served : (old new : Held) (driver : HeldDriver) (left : Audits) (view : Option ℕ) (now : ℕ) (local from : Address) (bytes : List ℕ)
-    (look : Look) (told : Told) → Looks (reader_of (packet_of bytes)) →
+    (look : Look) (told : Answered) → Looks (reader_of (packet_of bytes)) →
     IsLook old.past (seat_of (reader_of (packet_of bytes)) old.seats) view look →
-    ComesRead (shown_state look.older) old.driver driver (max now look.moment) local from bytes (came.Told told) →
+    Comes (looks_at old.driver.registry (shown_state look.older)) old.driver driver (max now look.moment) local from bytes (came.Answered told) →
     Tells old.audits left (told_one Sender told.decision) →
     Sits (left_of old driver left) new (reader_of (packet_of bytes)) look.view (max now look.moment) told.answer →
     Serves old new (record { view = view; step = Packet now local from bytes }) told.answer
 unfolding decided_by
 packet_served old new driver left view now local from bytes look told looks is comes tells sits =
-    let came' = came_told (shown_state look.older) old.driver driver (max now look.moment) local from bytes told comes in
-    looked_served old new driver left (reader_of (packet_of bytes)) view (Packet now local from bytes) look told.answer refl looks is came'.reads
+    let came' = came_as (looks_at old.driver.registry (shown_state look.older)) old.driver driver (max now look.moment) local from bytes (packet_of bytes) told comes in
+    looked_served old new driver left (reader_of (packet_of bytes)) view (Packet now local from bytes) look told.answer refl looks is came'.serves
     (λ e stands.
     let seen : DriverEnd = seen_by e.driver (shown_state look.older) in
     let is_told : told.decision ≡ decided_unless told.answer (content_decided seen from (packet_of bytes)) =

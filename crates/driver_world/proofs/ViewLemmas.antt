@@ -1,8 +1,8 @@
 -- Registries that are made again, and seats that are taken.
 use Rattle.std.proofs.Common.{◌≡◌, ℕ, zero, suc, arith, slice_index_or, ◌+◌, ◌<◌, ◌==◌, Bool, true, false, cond, Option, Some, None, List, [], ◌∷◌, ◌++◌, length, get_or, take, refl, sym, ap, ◌∙◌}
 use Rattle.std.proofs.lemmas.List.{take_more}
-use Rattle.driver_core.specs.declared.event.Event.{Event}
-use Rattle.driver_core.specs.declared.event.Inputs.{Inputs}
+use Rattle.driver_core.specs.declared.state.event.Event.{Event}
+use Rattle.driver_core.specs.declared.state.event.Inputs.{Inputs}
 use Rattle.driver_core.specs.Conduct.{state_after, state_of}
 use Rattle.driver_core.specs.State.{State}
 use Rattle.driver_steps.proofs.EndLemmas.{state_of_both}

@@ -5,17 +5,18 @@ use Rattle.channel_uri.specs.declared.address.Address.{Address}
 use Rattle.driver_core.specs.Conduct.{outcome_of}
 use Rattle.driver_core.specs.LeftOut.{left_out}
 use Rattle.driver_core.specs.Listing.{value}
-use Rattle.driver_core.specs.declared.event.Event.{Event}
-use Rattle.driver_core.specs.declared.event.Event.TheVariants.{Setup as SetUp}
-use Rattle.driver_core.specs.declared.outcome.Outcome.{Outcome}
-use Rattle.driver_core.specs.declared.outcome.Response.{Response}
-use Rattle.driver_core.specs.declared.outcome.Response.TheVariants.{Attached}
-use Rattle.driver_core.specs.declared.send_request.Outlet.{Outlet}
-use Rattle.driver_steps.specs.declared.answer.Answer.{Answer}
-use Rattle.driver_steps.specs.declared.answer.Answer.TheVariants.{Sent}
+use Rattle.driver_core.specs.declared.state.event.Event.{Event}
+use Rattle.driver_core.specs.declared.state.event.Event.TheVariants.{Setup as SetUp}
+use Rattle.driver_core.specs.declared.state.outcome.Outcome.{Outcome}
+use Rattle.driver_core.specs.declared.state.outcome.Response.{Response}
+use Rattle.driver_core.specs.declared.state.outcome.Response.TheVariants.{Attached}
+use Rattle.driver_core.specs.declared.asked.send_request.Outlet.{Outlet}
+use Rattle.log_steps.specs.declared.answer.Answer.{Answer}
+use Rattle.log_steps.specs.declared.answer.Answer.TheVariants.{Sent}
 use Rattle.driver_steps.specs.declared.step.Step.{Step}
 use Rattle.driver_steps.specs.declared.step.Step.TheVariants.{Conductor as Conducts, Packet, Offer, Poll, Send, List as Lists, Value}
-use Rattle.driver_steps.specs.Decided.{nak_decided, offer_decided, poll_decided, shown_decision, status_decided}
+use Rattle.driver_steps.specs.EndDecisions.{nak_decided, offer_decided, poll_decided, status_decided}
+use Rattle.log_steps.specs.Decided.{shown_decision}
 use Rattle.driver_steps.specs.Ends.{RunEnd, inputs_of, moved}
 use Rattle.driver_world.specs.declared.actor.Actor.{Actor}
 use Rattle.driver_world.specs.declared.actor.Actor.TheVariants.{Conductor, Sender, Receiver, Client}

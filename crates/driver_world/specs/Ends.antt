@@ -1,18 +1,18 @@
 -- What stands at the end of a run: the driver, all that was decided for each actor, the registries that the run went through,
 -- and which of them each actor looked at last. Own rules.
 use Rattle.std.specs.Prelude.{◌≡◌, ℕ, ◌+◌, List, [], ◌∷◌, ◌++◌, Option, Some, None, if◌then◌else◌}
-use Rattle.driver_core.specs.declared.event.Event.{Event}
-use Rattle.driver_core.specs.declared.event.Inputs.{Inputs}
-use Rattle.driver_core.specs.declared.peer.Peer.{Peer}
-use Rattle.driver_core.specs.declared.settings.Settings.{Settings}
+use Rattle.driver_core.specs.declared.state.event.Event.{Event}
+use Rattle.driver_core.specs.declared.state.event.Inputs.{Inputs}
+use Rattle.driver_core.specs.declared.state.peer.Peer.{Peer}
+use Rattle.driver_core.specs.declared.state.settings.Settings.{Settings}
 use Rattle.driver_core.specs.Conduct.{outcome_of}
 use Rattle.driver_core.specs.State.{State, opened}
-use Rattle.driver_steps.specs.declared.answer.Answer.{Answer}
-use Rattle.driver_steps.specs.declared.answer.Answer.TheVariants.{BadStep, NoMemory}
+use Rattle.log_steps.specs.declared.answer.Answer.{Answer}
+use Rattle.log_steps.specs.declared.answer.Answer.TheVariants.{BadStep, NoMemory}
 use Rattle.driver_steps.specs.declared.step.Step.{Step}
-use Rattle.driver_steps.specs.Ends.{RunEnd as DriverEnd, opening_end as driver_opening}
+use Rattle.driver_steps.specs.Ends.{RunEnd as DriverEnd, moved as driver_moved, moved_by, opening_end as driver_opening}
 use Rattle.driver_steps.specs.Laws.{event_of}
-use Rattle.driver_steps.specs.Runs.{moved_by, read_by}
+use Rattle.driver_steps.specs.Runs.{read_by}
 use Rattle.driver_world.specs.declared.actor.Actor.{Actor}
 use Rattle.driver_world.specs.declared.actor.Actor.TheVariants.{Conductor, Sender, Receiver, Client}
 use Rattle.driver_world.specs.declared.reading.Reading.{Reading}
@@ -50,12 +50,12 @@ seats_by e (one ∷ more) =
 abbrev pub conducted : RunEnd → Step → Moved
 conducted e step = record {
   after = record {
-    driver = (moved_by e.driver None step).after;
+    driver = (driver_moved e.driver step).after;
     decided = decided_by e.driver step e.decided;
     past = record e.past { taken = e.past.taken ++ event_of e.driver step };
     seats = seats_by e (event_of e.driver step);
   };
-  answer = (moved_by e.driver None step).answer;
+  answer = (driver_moved e.driver step).answer;
 }
 
 -- ---- any other actor
@@ -68,11 +68,11 @@ seen_by e older = record e { registry = read_by e older }
 abbrev pub looked : RunEnd → Actor → ℕ → Step → Moved
 looked e actor k step = record {
   after = record e {
-    driver = (moved_by e.driver (older_at e.past k) step).after;
+    driver = (moved_by (read_by e.driver (older_at e.past k)) e.driver step).after;
     decided = decided_by (seen_by e.driver (older_at e.past k)) step e.decided;
     seats = seated actor (record { view = k; moment = moment_of step }) e.seats;
   };
-  answer = (moved_by e.driver (older_at e.past k) step).answer;
+  answer = (moved_by (read_by e.driver (older_at e.past k)) e.driver step).answer;
 }
 
 -- a registry that it may not look at: nothing is changed

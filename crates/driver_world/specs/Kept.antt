@@ -1,6 +1,6 @@
 -- Events as a world keeps them. Own rules.
-use Rattle.driver_core.specs.declared.event.Event.{Event}
-use Rattle.driver_core.specs.declared.event.Event.TheVariants as event
+use Rattle.driver_core.specs.declared.state.event.Event.{Event}
+use Rattle.driver_core.specs.declared.state.event.Event.TheVariants as event
 use Rattle.driver_world.specs.declared.kept.Happening.{Happening}
 use Rattle.driver_world.specs.declared.kept.Happening.TheVariants.{Attach, Command, Reload, Tick, Setup}
 

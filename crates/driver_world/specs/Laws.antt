@@ -1,10 +1,10 @@
 -- A run of a world is one of its driver, whose steps go by the registries that they name: so whatever is said of all runs of a
 -- driver holds of worlds. Own rules.
 use Rattle.std.specs.Prelude.{◌≡◌, List}
-use Rattle.driver_core.specs.declared.peer.Peer.{Peer}
-use Rattle.driver_core.specs.declared.settings.Settings.{Settings}
+use Rattle.driver_core.specs.declared.state.peer.Peer.{Peer}
+use Rattle.driver_core.specs.declared.state.settings.Settings.{Settings}
 use Rattle.driver_core.specs.Conduct.{state_of}
-use Rattle.driver_steps.specs.declared.answer.Answer.{Answer}
+use Rattle.log_steps.specs.declared.answer.Answer.{Answer}
 use Rattle.driver_steps.specs.Ends.{opening_end as driver_opening}
 use Rattle.driver_steps.specs.Runs as driver
 use Rattle.driver_world.specs.declared.reading.Reading.{Reading}

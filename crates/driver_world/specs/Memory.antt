@@ -1,9 +1,9 @@
 -- Which steps of a world may take memory. Own rules.
 use Rattle.std.specs.Prelude.{ℕ, List, [], ◌∷◌, Option, Some, None}
 use Rattle.driver_core.specs.State.{State}
-use Rattle.driver_steps.specs.declared.answer.Answer.{Answer}
+use Rattle.log_steps.specs.declared.answer.Answer.{Answer}
 use Rattle.driver_steps.specs.declared.step.Step.{Step}
-use Rattle.driver_steps.specs.Memory.{HasMemory as DriverHasMemory}
+use Rattle.driver_steps.specs.StepMemory.{HasMemory as DriverHasMemory}
 use Rattle.driver_world.specs.declared.actor.Actor.{Actor}
 use Rattle.driver_world.specs.declared.actor.Actor.TheVariants.{Conductor}
 use Rattle.driver_world.specs.declared.reading.Reading.{Reading}
@@ -12,7 +12,7 @@ use Rattle.driver_world.specs.Views.{actor_of, at_moment, newest_of, older_at, s
 
 -- a step by an older registry takes memory for that; one by the newest takes what the driver's does
 abbrev pub looked_has : RunEnd → Step → Answer → Option State → Type 0
-looked_has e step answer None = DriverHasMemory e.driver step answer
+looked_has e step answer None = DriverHasMemory e.driver.registry e.driver step answer
 looked_has e step answer (Some older) = Unit {0}
 
 abbrev pub has_as : RunEnd → Actor → Option ℕ → Step → Answer → Type 0

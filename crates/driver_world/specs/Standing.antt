@@ -1,10 +1,10 @@
 -- A world holds a driver, the last decisions of each actor, the registries that it went through, and which of them each actor
 -- looked at last. Each run ends where a world may stand; each call of a world goes on from each such end.
 use Rattle.std.specs.Prelude.{◌≡◌, ℕ, ◌==◌, true, false, List, ◌++◌, Option, ◌⊎◌}
-use Rattle.driver_core.specs.declared.peer.Peer.{Peer}
-use Rattle.driver_core.specs.declared.settings.Settings.{Settings}
-use Rattle.driver_steps.specs.declared.answer.Answer.{Answer}
-use Rattle.driver_steps.specs.declared.answer.Answer.TheVariants.{BadStep, NoMemory}
+use Rattle.driver_core.specs.declared.state.peer.Peer.{Peer}
+use Rattle.driver_core.specs.declared.state.settings.Settings.{Settings}
+use Rattle.log_steps.specs.declared.answer.Answer.{Answer}
+use Rattle.log_steps.specs.declared.answer.Answer.TheVariants.{BadStep, NoMemory}
 use Rattle.driver_steps.specs.Standing.{Held as HeldDriver, StandsForEnd as DriverStands}
 use Rattle.driver_world.specs.declared.actor.Actor.{Actor}
 use Rattle.driver_world.specs.declared.reading.Reading.{Reading}
@@ -30,7 +30,7 @@ pub record StandsForEnd (held : Held) (e : RunEnd) : Type 0 where
   pub past : held.past ≡ e.past
   pub seats : held.seats ≡ e.seats
 
--- One step, for each end that the world stands for. Want of memory is an answer only to a step that may take some.
+-- One step, for each end that the world stands for. Out of memory is an answer only to a step that may take some.
 pub record Serves (old new : Held) (reading : Reading) (answer : Answer) : Type 0 where
   pub on : (e : RunEnd) → StandsForEnd old e → IsAnswer e reading answer × StandsForEnd new (after e reading answer)
   pub without_memory : (e : RunEnd) → StandsForEnd old e → HasMemory e reading answer

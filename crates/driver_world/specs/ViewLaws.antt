@@ -1,8 +1,8 @@
 -- What holds of the registries of every run, and of who looked at which. Own rules.
 use Rattle.std.specs.Prelude.{◌≡◌, ℕ, ◌≤◌, List, take}
-use Rattle.driver_core.specs.declared.peer.Peer.{Peer}
-use Rattle.driver_core.specs.declared.settings.Settings.{Settings}
-use Rattle.driver_steps.specs.declared.answer.Answer.{Answer}
+use Rattle.driver_core.specs.declared.state.peer.Peer.{Peer}
+use Rattle.driver_core.specs.declared.state.settings.Settings.{Settings}
+use Rattle.log_steps.specs.declared.answer.Answer.{Answer}
 use Rattle.driver_world.specs.declared.actor.Actor.{Actor}
 use Rattle.driver_world.specs.declared.reading.Reading.{Reading}
 use Rattle.driver_world.specs.declared.seats.Seat.{Seat}

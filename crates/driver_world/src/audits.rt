@@ -1,7 +1,7 @@
 //! The last decisions of each actor.
 
 ghost use Rattle.audit_ring.specs.Audit.{Kept, kept_of};
-ghost use Rattle.driver_core.specs.declared.outcome.Response.{Response as Responds};
+ghost use Rattle.driver_core.specs.declared.state.outcome.Response.{Response as Responds};
 ghost use Rattle.driver_world.specs.Audits.{Tells, attached_by, decided_by_outcome, decision_of, kept_all, IsAuditOf, kept_for, nothing_decided, place_at, told, told_one, told_sent};
 ghost use Rattle.driver_world.specs.declared.actor.Actor.TheVariants.{Client, Sender};
 ghost use Rattle.policy_core.specs.declared.decision.Decision.{Decision as Decides};
@@ -10,7 +10,7 @@ ghost use Rattle.std.specs.Prelude.{◌≡◌, ◌<◌, ◌++◌, ◌∷◌, ℕ
 use crate::actor::Actor;
 use audit_ring::Audit;
 use driver_core::{Outcome, Outlet, Response};
-use driver_steps::Answer;
+use log_steps::Answer;
 use policy_core::Decision;
 use std::alloc::{AllocError, Global};
 use std::marker::Model;

@@ -44,7 +44,7 @@ pub(crate) struct Kept {
 }
 
 impl Model for Kept {
-    ghost use Rattle.driver_core.specs.declared.event.Event.{Event};
+    ghost use Rattle.driver_core.specs.declared.state.event.Event.{Event};
     ghost use Rattle.driver_world.specs.Kept.{event_of};
 
     ghost Value = { Event };

@@ -15,10 +15,11 @@ mod seats;
 mod world;
 
 pub use actor::Actor;
-pub use driver_steps::{
-    Answer, Cause, CopiedFragments, Fragment, FragmentCopies, Insert, Offered, OpenLog, Step, Told,
-};
+pub use driver_steps::Step;
 pub use laws::{registries_were_newest, runs_are_of_the_driver, views_only_rise};
+pub use log_steps::{
+    Answer, Answered, Cause, CopiedFragments, Fragment, FragmentCopies, Insert, Offered, OpenLog,
+};
 pub use reading::Reading;
 pub use seats::Seat;
 pub use world::World;

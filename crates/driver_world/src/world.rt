@@ -2,8 +2,7 @@ ghost use Rattle.driver_core.specs.Soundness.{AreSettings};
 ghost use Rattle.audit_ring.specs.Audit.{kept_of};
 ghost use Rattle.driver_world.specs.Past.{IsShown, shown_state};
 ghost use Rattle.driver_world.specs.Views.{reader_of};
-ghost use Rattle.frame_codec.specs.Datagram.{Content, content, frames as data_frames, packet_of};
-ghost use Rattle.frame_codec.specs.Frames.{frames_left};
+ghost use Rattle.frame_codec.specs.Datagram.{Content, content, packet_of};
 ghost use Rattle.frame_codec.specs.Steps.{Equals};
 ghost use Rattle.frame_codec.specs.declared.fault.BadPacket.{BadPacket as Faults};
 ghost use Rattle.std.specs.Prelude.{◌≡◌, [], Some, None, Ok, Result, max, length, ◌<◌, option_copied, IfOk, IfErr, OnOk, OnErr};
@@ -18,8 +17,9 @@ use audit_ring::Audit;
 use byte_strings::Items;
 use channel_uri::Address;
 use driver_core::{Entry, Event, Inputs, Outcome, Peer, Registry, Settings, both};
-use driver_steps::{Answer, Came, Driver, Step, Told};
-use frame_codec::{BadPacket, Datagram, Frames, Packet, Setup};
+use driver_steps::{Step, SteppedDriver};
+use frame_codec::{BadPacket, Datagram, Packet, Setup};
+use log_steps::{Answer, Answered, Came};
 use policy_core::Policy;
 use std::alloc::{AllocError, Global};
 use std::marker::Model;
@@ -27,7 +27,7 @@ use std::marker::Model;
 /// A driver that is run step by step, with what was decided for each actor, and the registries that they look at.
 #[derive(Drop)]
 pub struct World {
-    driver: Driver,
+    driver: SteppedDriver,
     audits: Audits,
     past: Registries,
     seats: AllSeats,
@@ -102,7 +102,7 @@ fn reader_of(read: &Result<Packet<'_>, BadPacket>) -> Actor
 }
 
 impl World {
-    ghost use Rattle.driver_core.specs.declared.event.Event.TheVariants.{Setup as SetUp};
+    ghost use Rattle.driver_core.specs.declared.state.event.Event.TheVariants.{Setup as SetUp};
     ghost use Rattle.driver_steps.specs.Standing.{pages_of_logs};
     ghost use Rattle.driver_steps.specs.declared.step.Step.TheVariants.{Conductor, Packet as Packets, Offer, Poll, Send, Image, List as Lists, Value};
     ghost use Rattle.driver_world.specs.Audits.{IsAuditOf, kept_for};
@@ -122,7 +122,7 @@ impl World {
         requires { AreSettings settings }
         ensures { IfOk result (λ world. StandsForEnd world (opening_end settings policy peers.now)) }
     {
-        let driver = Driver::new(alloc, settings, policy, peers)?;
+        let driver = SteppedDriver::new(alloc, settings, policy, peers)?;
         let opened = driver.registry().copy(alloc);
         let parts = both(driver, opened)?;
         let ((driver, opened), audits) = both(parts, Audits::new(alloc))?;
@@ -279,8 +279,7 @@ impl World {
     }
 
     /// The sender or the receiver takes a datagram, of which `read` is what it holds. It is made once for each kind of datagram,
-    /// so that each has the answers of its own kind alone. Frames have a call of their own: they are what comes most, and no
-    /// decision of them is handed on.
+    /// so that each has the answers of its own kind alone.
     #[inline(always)]
     fn take(
         &mut self,
@@ -307,39 +306,12 @@ impl World {
             .datagram(look.older(), alloc, now, local, from, bytes, read)
         {
             Came::SetUp(_) => unreachable!(),
-            Came::Told(told) => {
+            Came::Answered(told) => {
                 self.audits.tell_sender(told.decision);
                 self.sit(actor, look, now, &told.answer);
                 told.answer
             }
         }
-    }
-
-    /// The receiver takes the frames of a datagram. It asks no policy, so nothing is reported of it but the answer.
-    #[inline(always)]
-    fn take_frames(
-        &mut self,
-        alloc: Global,
-        view: Option<u64>,
-        now: u64,
-        local: &Address,
-        from: &Address,
-        bytes: &[u8],
-        frames: Frames<'_>,
-    ) -> Answer
-        requires { packet_of bytes.now ≡ Ok (data_frames (frames_left frames)) }
-        ensures { Serves self.old self.new (record { view = view; step = Packets now local.now from.now bytes.now }) result }
-    {
-        let look = match self.look(alloc, Actor::Receiver, view) {
-            Ok(look) => look,
-            Err(answer) => return answer,
-        };
-        let now = look.at(now);
-        let answer = self
-            .driver
-            .frames(look.older(), alloc, now, local, from, bytes, frames);
-        self.sit(Actor::Receiver, look, now, &answer);
-        answer
     }
 
     /// A datagram came to the address `local`, from the address `from`: a SETUP is an event; the frames of data and a
@@ -359,7 +331,15 @@ impl World {
         match Datagram::read(bytes) {
             Ok(Packet::Setup(setup)) => self.set_up(alloc, view, now, local, from, setup),
             Ok(Packet::Data(frames)) => {
-                self.take_frames(alloc, view, now, local, from, bytes, frames)
+                self.take(
+                    alloc,
+                    view,
+                    now,
+                    local,
+                    from,
+                    bytes,
+                    Ok(Packet::Data(frames)),
+                )
             }
             Ok(Packet::Beat(header)) => {
                 self.take(

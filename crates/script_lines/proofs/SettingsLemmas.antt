@@ -6,7 +6,7 @@ use Rattle.std.proofs.lemmas.Bool.{cond_both, leb-true}
 use Rattle.channel_uri.specs.Address.{address_of}
 use Rattle.channel_uri.specs.Quantity.{mtu_from, term_length_from}
 use Rattle.channel_uri.specs.Session.{session_id_of}
-use Rattle.driver_core.specs.declared.settings.Settings.{Settings}
+use Rattle.driver_core.specs.declared.state.settings.Settings.{Settings}
 use Rattle.driver_core.specs.Settings.{default_settings}
 use Rattle.driver_core.specs.Soundness.{AreSettings}
 use Rattle.driver_core.proofs.SizeLemmas.{Holds, IsMtu, IsTermLength, mtu_sound, term_length_sound}

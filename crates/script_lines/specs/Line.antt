@@ -4,7 +4,7 @@ use Rattle.std.specs.Char.{is_ascii}
 use Rattle.std.specs.List.{list_all, starts_with}
 use Rattle.std.specs.Option.{option_map}
 use Rattle.std.specs.Str.{bytes_eq}
-use Rattle.driver_core.specs.declared.event.Event.TheVariants.{Attach, Command, Tick}
+use Rattle.driver_core.specs.declared.state.event.Event.TheVariants.{Attach, Command, Tick}
 use Rattle.driver_steps.specs.declared.step.Step.{Step}
 use Rattle.driver_steps.specs.declared.step.Step.TheVariants.{Conductor, Packet, Offer, Poll, Send, Image, List as Lists, Value}
 use Rattle.driver_world.specs.declared.actor.Actor.{Actor}

@@ -5,7 +5,7 @@ use Rattle.std.specs.Str.{bytes_eq}
 use Rattle.channel_uri.specs.Address.{address_of}
 use Rattle.channel_uri.specs.Quantity.{mtu_from, term_length_from, times}
 use Rattle.channel_uri.specs.Session.{session_id_of}
-use Rattle.driver_core.specs.declared.settings.Settings.{Settings}
+use Rattle.driver_core.specs.declared.state.settings.Settings.{Settings}
 use Rattle.driver_core.specs.Settings.{default_settings}
 use Rattle.script_lines.specs.declared.settings.Duration.{Duration as DurationKey}
 use Rattle.script_lines.specs.declared.settings.Duration.TheVariants.{ClientLiveness, ImageLiveness, Linger, ConnectionTimeout, DestinationTimeout, ResendLinger, NakDelay, NakRepeat, SetupInterval, HeartbeatInterval, StatusInterval}

@@ -3,15 +3,13 @@ use Rattle.std.proofs.Common.{◌≡◌, ℕ, ℤ, ◌==◌, ◌&&◌, ◌<◌, 
 use Rattle.std.specs.List.{All, Contains}
 use Rattle.std.proofs.lemmas.Bool.{and_parts, eqb-true}
 use Rattle.std.proofs.lemmas.List.Elements.{All-head, All-contains_itself, Contains-append_right}
-use Rattle.any_log.specs.Held.{Made, for_publication}
-use Rattle.any_log.specs.Whole.{AnyWhole, whole, rebuilt, made_for as made_any}
 use Rattle.channel_uri.specs.declared.address.Address.{Address}
 use Rattle.channel_uri.specs.declared.media.Media.{Media}
 use Rattle.channel_uri.specs.declared.media.Media.TheVariants.{Udp, Ipc, Counter}
-use Rattle.driver_core.specs.declared.event.Event.{Event}
-use Rattle.driver_core.specs.declared.event.Inputs.{Inputs}
-use Rattle.driver_core.specs.declared.log_request.LogRequest.{LogRequest}
-use Rattle.driver_core.specs.declared.settings.Settings.{Settings}
+use Rattle.driver_core.specs.declared.state.event.Event.{Event}
+use Rattle.driver_core.specs.declared.state.event.Inputs.{Inputs}
+use Rattle.driver_core.specs.declared.asked.log_request.LogRequest.{LogRequest}
+use Rattle.driver_core.specs.declared.state.settings.Settings.{Settings}
 use Rattle.driver_core.specs.Conduct.{state_of}
 use Rattle.driver_core.specs.PublicationRequests.{is_sent_as, publication_at, resending_of, resent_by}
 use Rattle.driver_core.specs.State.{State, opened}
@@ -21,17 +19,19 @@ use Rattle.driver_laws.proofs.NewNumberLemmas.{never_drawn_again}
 use Rattle.driver_laws.proofs.NumberLemmas.{numbers_rise}
 use Rattle.driver_laws.proofs.RisingLemmas.{between, rises_unique}
 use Rattle.driver_steps.specs.Ends.{RunEnd, log_at}
-use Rattle.driver_steps.specs.Idents.{ident_of, kind_over, made_by, made_of}
+use Rattle.log_steps.specs.Idents.{ident_of, kind_over, made_by, made_of}
 use Rattle.driver_steps.specs.Laws.{made_as, made_for}
-use Rattle.driver_steps.specs.Moves.{WholeLog}
+use Rattle.log_steps.specs.Moves.{WholeLog}
 use Rattle.driver_steps.proofs.FollowLemmas.{Follows}
 use Rattle.driver_steps.proofs.LiveLemmas.{found_log}
 use Rattle.driver_steps.proofs.MatchLemmas.{made_as_log}
+use Rattle.log_traffic.specs.Held.{Made, for_publication}
+use Rattle.log_traffic.specs.Whole.{AnyWhole, whole, rebuilt, made_for as made_any}
 use Rattle.stream_registry.specs.Origins.{is_published_by}
 use Rattle.stream_registry.specs.Places.{is_udp as is_over_udp}
 use Rattle.stream_registry.specs.declared.row.Origin.{Origin}
 use Rattle.stream_registry.specs.declared.row.Origin.TheVariants.{Published, Remote}
-use Rattle.stream_registry.specs.declared.row.Source.{Source}
+use Rattle.stream_registry.specs.declared.row.LogRow.{LogRow}
 use Rattle.term_log.specs.declared.ident.Ident.{Ident}
 use Rattle.term_log.specs.Frames.{Frame}
 use Rattle.term_log.specs.Ident.{is_udp}
@@ -42,11 +42,11 @@ use Rattle.two_drivers.proofs.SentLemmas.{IsAsked, IsOverUdp, OverUdp}
 
 -- ---- what is found
 
-record IsFoundBy (test : Source → Bool) (rows : List Source) (row : Source) : Type 0 where
+record IsFoundBy (test : LogRow → Bool) (rows : List LogRow) (row : LogRow) : Type 0 where
   has : Contains rows row
   passes : test row ≡ true
 
-found_step : (test : Source → Bool) (first row : Source) (rows : List Source) (b : Bool) → test first ≡ b → cond b (Some first) (find test rows) ≡ Some row →
+found_step : (test : LogRow → Bool) (first row : LogRow) (rows : List LogRow) (b : Bool) → test first ≡ b → cond b (Some first) (find test rows) ≡ Some row →
     (find test rows ≡ Some row → IsFoundBy test rows row) → IsFoundBy test (first ∷ rows) row
 found_step test first row rows true passes is rest =
     let same : first ≡ row = cc is in
@@ -55,19 +55,19 @@ found_step test first row rows true passes is rest =
 found_step test first row rows false passes is rest =
     let there = rest is in record { has = Contains-append_right (first ∷ []) rows row there.has; passes = there.passes }
 
-found_by : (test : Source → Bool) (row : Source) (rows : List Source) → find test rows ≡ Some row → IsFoundBy test rows row
+found_by : (test : LogRow → Bool) (row : LogRow) (rows : List LogRow) → find test rows ≡ Some row → IsFoundBy test rows row
 found_by test row [] is = absurd (cc is)
 found_by test row (first ∷ rows) is = found_step test first row rows (test first) refl is (found_by test row rows)
 
 -- ---- the row of a log
 
-pub record IsRowOf (settings : Settings) (rows : List Source) (n : ℕ) (log : WholeLog) : Type 0 where
-  pub row : Source
+pub record IsRowOf (settings : Settings) (rows : List LogRow) (n : ℕ) (log : WholeLog) : Type 0 where
+  pub row : LogRow
   pub has : Contains rows row
   pub number : row.number ≡ n
   pub made : made_any log.whole ≡ made_of settings row
 
-row_step : (settings : Settings) (n : ℕ) (first log : WholeLog) (logs : List WholeLog) (row : Source) (rows : List Source) (b : Bool) → (first.source == n) ≡ b →
+row_step : (settings : Settings) (n : ℕ) (first log : WholeLog) (logs : List WholeLog) (row : LogRow) (rows : List LogRow) (b : Bool) → (first.source == n) ≡ b →
     made_for first ≡ made_as settings row → cond b (Some first) (log_at logs n) ≡ Some log → (log_at logs n ≡ Some log → IsRowOf settings rows n log) →
     IsRowOf settings (row ∷ rows) n log
 row_step settings n first log logs row rows true same made is rest =
@@ -83,7 +83,7 @@ row_step settings n first log logs row rows false same made is rest =
     let there = rest is in
     record { row = there.row; has = Contains-append_right (row ∷ []) rows there.row there.has; number = there.number; made = there.made }
 
-pub row_made : (settings : Settings) (n : ℕ) (log : WholeLog) (logs : List WholeLog) (rows : List Source) → map made_for logs ≡ map (made_as settings) rows →
+pub row_made : (settings : Settings) (n : ℕ) (log : WholeLog) (logs : List WholeLog) (rows : List LogRow) → map made_for logs ≡ map (made_as settings) rows →
     log_at logs n ≡ Some log → IsRowOf settings rows n log
 row_made settings n log [] rows same is = absurd (cc is)
 row_made settings n log (first ∷ logs) [] same is = absurd (cc same)
@@ -99,14 +99,14 @@ over_kind Udp is = refl
 over_kind Ipc is = absurd (cc is)
 over_kind Counter is = refl
 
-over_made : (settings : Settings) (row : Source) (origin : Origin) (w : Whole) → is_published_by origin ≡ true → is_over_udp row.channel.media ≡ true →
+over_made : (settings : Settings) (row : LogRow) (origin : Origin) (w : Whole) → is_published_by origin ≡ true → is_over_udp row.channel.media ≡ true →
     for_publication w.ident ≡ made_by settings row origin → is_udp w.ident.kind ≡ true
 over_made settings row (Published exclusive since) w published over made =
     let same : w.ident ≡ ident_of settings row = cc made in
     ap (λ (i : Ident). is_udp i.kind) same ∙ over_kind row.channel.media over
 over_made settings row (Remote address initial_term join) w published over made = absurd (cc published)
 
-sent_parts : (session stream : ℤ) (row : Source) → is_sent_as session stream row ≡ true → (is_published_by row.origin ≡ true) × (is_over_udp row.channel.media ≡ true)
+sent_parts : (session stream : ℤ) (row : LogRow) → is_sent_as session stream row ≡ true → (is_published_by row.origin ≡ true) × (is_over_udp row.channel.media ≡ true)
 sent_parts session stream row is =
     let first = and_parts (is_published_by row.origin && is_over_udp row.channel.media && Rattle.std.specs.Ordering.int_eq row.session session) _ is in
     let second = and_parts (is_published_by row.origin && is_over_udp row.channel.media) _ first.0 in
@@ -115,12 +115,12 @@ sent_parts session stream row is =
 -- ---- a registry of the past
 
 -- what was live then is what it was, where its number is of a row that stood then
-same_row : (s e : State) (row now : Source) → AreRising s → Contains s.streams.sources row → now.number ≡ row.number → (live : WasLive s.streams now) → live.before ≡ row
+same_row : (s e : State) (row now : LogRow) → AreRising s → Contains s.streams.sources row → now.number ≡ row.number → (live : WasLive s.streams now) → live.before ≡ row
 same_row s e row now rises has number live =
-    rises_unique (λ (r : Source). r.number) 0 s.last_number s.streams.sources live.before row rises.sources live.stood has
-    (ap (λ (r : Source). r.number) (sym live.same) ∙ number)
+    rises_unique (λ (r : LogRow). r.number) 0 s.last_number s.streams.sources live.before row rises.sources live.stood has
+    (ap (λ (r : LogRow). r.number) (sym live.same) ∙ number)
 
-row_udp : (opening : Opening) (events later : List (Event × Inputs)) (e : RunEnd) (session stream : ℤ) (row : Source) (log : WholeLog) (w : Whole) → Follows e →
+row_udp : (opening : Opening) (events later : List (Event × Inputs)) (e : RunEnd) (session stream : ℤ) (row : LogRow) (log : WholeLog) (w : Whole) → Follows e →
     e.registry ≡ state_of (state_of (opened opening.settings opening.policy opening.peers) events) later →
     Contains (state_of (opened opening.settings opening.policy opening.peers) events).streams.sources row → is_sent_as session stream row ≡ true →
     log_at e.logs row.number ≡ Some log → log.whole ≡ whole w → is_udp w.ident.kind ≡ true
@@ -138,7 +138,7 @@ row_udp opening events later e session stream row log w follows leads has sent f
     ∙ ap (made_of e.registry.settings) same in
     over_made e.registry.settings row row.origin w parts.0 parts.1 (ap made_any (sym whole') ∙ now.made ∙ made)))
     (λ (high : s.last_number < now.row.number).
-    (let low = (between (λ (r : Source). r.number) 0 s.last_number s.streams.sources row rises.sources has).1 in
+    (let low = (between (λ (r : LogRow). r.number) 0 s.last_number s.streams.sources row rises.sources has).1 in
     let number = now.number in
     absurd (omega (arith, high, low, number))))
     ((never_drawn_again opening.settings opening.policy opening.peers events later).sources now.row there)
@@ -152,7 +152,7 @@ source_or None = 0
 source_or (Some request) = request.source
 
 asked_by : (opening : Opening) (i : Ident) (all : List Frame) (events later : List (Event × Inputs)) (s : State) (e : RunEnd) (from : Address) (session stream : ℤ)
-    (request : LogRequest) (log : WholeLog) (o : Option Source) → Follows e → All (IsOverUdp i all) e.logs →
+    (request : LogRequest) (log : WholeLog) (o : Option LogRow) → Follows e → All (IsOverUdp i all) e.logs →
     s ≡ state_of (opened opening.settings opening.policy opening.peers) events → e.registry ≡ state_of s later → publication_at s session stream ≡ o →
     resent_by s from o ≡ Some request → log_at e.logs request.source ≡ Some log → IsOnly i all log.whole
 asked_by opening i all events later s e from session stream request log None follows over was leads at is found = absurd (cc is)

@@ -3,18 +3,18 @@ use Rattle.std.proofs.Common.{◌≡◌, ℕ, ◌%◌, true, List, Some, refl, s
 use Rattle.std.specs.Int.{w32}
 use Rattle.std.specs.Prelude.{FitsSigned}
 use Rattle.std.proofs.lemmas.List.Elements.{All-contains}
-use Rattle.any_log.specs.Held.{for_publication}
-use Rattle.any_log.specs.Whole.{AnyWhole, whole, rebuilt, made_for as made_any}
-use Rattle.driver_core.specs.declared.peer.Peer.{Peer}
-use Rattle.driver_core.specs.declared.settings.Settings.{Settings}
+use Rattle.log_traffic.specs.Held.{for_publication}
+use Rattle.log_traffic.specs.Whole.{AnyWhole, whole, rebuilt, made_for as made_any}
+use Rattle.driver_core.specs.declared.state.peer.Peer.{Peer}
+use Rattle.driver_core.specs.declared.state.settings.Settings.{Settings}
 use Rattle.driver_core.specs.Soundness.{AreSizes}
 use Rattle.driver_laws.specs.WidthLaws.{AreSettingsOf32Bits, HasNumbersOf32Bits, IsOf32Bits}
 use Rattle.driver_laws.proofs.WidthLemmas.{publications_fit}
-use Rattle.driver_steps.specs.declared.answer.Answer.{Answer}
+use Rattle.log_steps.specs.declared.answer.Answer.{Answer}
 use Rattle.driver_steps.specs.Ends.{RunEnd, log_at, opening_end}
-use Rattle.driver_steps.specs.Idents.{ident_of, made_by, made_of}
+use Rattle.log_steps.specs.Idents.{ident_of, made_by, made_of}
 use Rattle.driver_steps.specs.Laws.{taken_from}
-use Rattle.driver_steps.specs.Moves.{WholeLog}
+use Rattle.log_steps.specs.Moves.{WholeLog}
 use Rattle.driver_steps.specs.Runs.{Reading, end_of}
 use Rattle.driver_steps.proofs.EndLemmas.{runs_take}
 use Rattle.driver_steps.proofs.FollowLemmas.{Follows}
@@ -23,7 +23,7 @@ use Rattle.policy_core.specs.RuleList.{Rules}
 use Rattle.stream_registry.specs.Origins.{is_published, is_published_by}
 use Rattle.stream_registry.specs.declared.row.Origin.{Origin}
 use Rattle.stream_registry.specs.declared.row.Origin.TheVariants.{Published, Remote}
-use Rattle.stream_registry.specs.declared.row.Source.{Source}
+use Rattle.stream_registry.specs.declared.row.LogRow.{LogRow}
 use Rattle.term_log.specs.declared.ident.Ident.{Ident}
 use Rattle.term_log.specs.Ident.{IsIdent}
 use Rattle.term_log.specs.Whole.{Whole}
@@ -34,7 +34,7 @@ use Rattle.two_drivers.specs.Sent.{IsFitLog}
 whole_words : (n : ℕ) → n % 4096 ≡ 0 → n % 32 ≡ 0
 whole_words n whole' = omega (arith, whole')
 
-ident_sound : (settings : Settings) (row : Source) → AreSizes row.measures → IsIdent (ident_of settings row)
+ident_sound : (settings : Settings) (row : LogRow) → AreSizes row.measures → IsIdent (ident_of settings row)
 ident_sound settings row sizes = record {
   term_low = sizes.term_low;
   term_high = sizes.term_high;
@@ -46,7 +46,7 @@ ident_sound settings row sizes = record {
   start_below = (let low = sizes.term_low in omega (arith, low));
 }
 
-sizes_by : (settings : Settings) (row : Source) (origin : Origin) (w : Whole) → AreSizes row.measures → for_publication w.ident ≡ made_by settings row origin →
+sizes_by : (settings : Settings) (row : LogRow) (origin : Origin) (w : Whole) → AreSizes row.measures → for_publication w.ident ≡ made_by settings row origin →
     IsIdent w.ident
 sizes_by settings row (Published exclusive since) w sizes made =
     let same : w.ident ≡ ident_of settings row = cc made in
@@ -54,7 +54,7 @@ sizes_by settings row (Published exclusive since) w sizes made =
 sizes_by settings row (Remote address initial_term join) w sizes made = absurd (cc made)
 
 -- of the numbers of its row, and of the settings by which it is made
-numbers_by : (settings : Settings) (row : Source) (origin : Origin) (w : Whole) → FitsSigned w32 settings.initial_term →
+numbers_by : (settings : Settings) (row : LogRow) (origin : Origin) (w : Whole) → FitsSigned w32 settings.initial_term →
     (is_published_by origin ≡ true → IsOf32Bits row) → IsIdent w.ident → for_publication w.ident ≡ made_by settings row origin → IsFit w.ident
 numbers_by settings row (Published exclusive since) w initial_term numbers sizes made =
     let same : w.ident ≡ ident_of settings row = cc made in
@@ -66,7 +66,7 @@ numbers_by settings row (Published exclusive since) w initial_term numbers sizes
     }
 numbers_by settings row (Remote address first_term join) w initial_term numbers sizes made = absurd (cc made)
 
-fit_by : (settings : Settings) (row : Source) (a : AnyWhole) → AreSizes row.measures → FitsSigned w32 settings.initial_term →
+fit_by : (settings : Settings) (row : LogRow) (a : AnyWhole) → AreSizes row.measures → FitsSigned w32 settings.initial_term →
     (is_published row ≡ true → IsOf32Bits row) → made_any a ≡ made_of settings row → IsFitLog a
 fit_by settings row (whole w) sizes initial_term numbers made =
     numbers_by settings row row.origin w initial_term numbers (sizes_by settings row row.origin w sizes made) made
@@ -76,7 +76,7 @@ pub fit_of : (n : ℕ) (e : RunEnd) (log : WholeLog) → Follows e → HasNumber
 fit_of n e log follows numbers live =
     let of = row_made e.registry.settings n log e.logs e.registry.streams.sources follows.logs.made live in
     fit_by e.registry.settings of.row log.whole
-    (All-contains (λ (row : Source). AreSizes row.measures) e.registry.streams.sources of.row follows.sound.sizes of.has) numbers.initial_term
+    (All-contains (λ (row : LogRow). AreSizes row.measures) e.registry.streams.sources of.row follows.sound.sizes of.has) numbers.initial_term
     (numbers.publications of.row of.has) of.made
 
 -- so is what the log of a publication is made for at each end of a run

@@ -4,21 +4,21 @@ use Rattle.std.specs.List.{All}
 use Rattle.std.proofs.lemmas.Bool.{and_parts, cond_both}
 use Rattle.std.proofs.lemmas.Bool.Decides.{Decides-int_eq}
 use Rattle.std.proofs.lemmas.List.Elements.{All-nil, All-cons, All-head, All-tail, All-map}
-use Rattle.any_log.specs.Asking.{after_status as after_hearing}
-use Rattle.any_log.specs.Held.{Made}
-use Rattle.any_log.specs.Reporting.{after_report}
-use Rattle.any_log.specs.Sending.{after_turn}
-use Rattle.any_log.specs.Whole.{AnyWhole, whole, rebuilt, beaten, made_for as made_any, polled as any_polled, position_in, received, rejoined}
-use Rattle.any_log.proofs.AnyLemmas.{data_ident, polled_ident}
+use Rattle.log_traffic.specs.Asking.{after_status as after_hearing}
+use Rattle.log_traffic.specs.Held.{Made}
+use Rattle.log_traffic.specs.Reporting.{after_report}
+use Rattle.log_traffic.specs.Sending.{after_turn}
+use Rattle.log_traffic.specs.Whole.{AnyWhole, whole, rebuilt, beaten, made_for as made_any, polled as any_polled, position_in, received, rejoined}
+use Rattle.log_traffic.proofs.AnyLemmas.{data_ident, polled_ident}
 use Rattle.channel_uri.specs.declared.address.Address.{Address}
 use Rattle.channel_uri.specs.Address.{is_same}
 use Rattle.channel_uri.specs.Channel.{Shape, endpoint_shape}
-use Rattle.driver_core.specs.declared.event.Event.TheVariants.{Setup as SetUp}
-use Rattle.driver_core.specs.declared.image_request.Astray.{Astray}
-use Rattle.driver_core.specs.declared.image_request.Astray.TheVariants.{Stranger}
-use Rattle.driver_core.specs.declared.log_request.LogRequest.{LogRequest}
-use Rattle.driver_core.specs.declared.peer.Peer.{Peer}
-use Rattle.driver_core.specs.declared.settings.Settings.{Settings}
+use Rattle.driver_core.specs.declared.state.event.Event.TheVariants.{Setup as SetUp}
+use Rattle.driver_core.specs.declared.asked.image_request.Astray.{Astray}
+use Rattle.driver_core.specs.declared.asked.image_request.Astray.TheVariants.{Stranger}
+use Rattle.driver_core.specs.declared.asked.log_request.LogRequest.{LogRequest}
+use Rattle.driver_core.specs.declared.state.peer.Peer.{Peer}
+use Rattle.driver_core.specs.declared.state.settings.Settings.{Settings}
 use Rattle.driver_core.specs.ImageRequests.{image_for, received_by, sent_to}
 use Rattle.driver_core.specs.LogRequests.{offering_of, receiving_of}
 use Rattle.driver_core.specs.PublicationRequests.{joining_of, publisher_of, resending_of}
@@ -26,30 +26,28 @@ use Rattle.driver_core.specs.Readers.{readers_of}
 use Rattle.driver_core.specs.SendRequests.{sending_of}
 use Rattle.driver_core.specs.Soundness.{AreSettings}
 use Rattle.driver_core.specs.State.{State}
-use Rattle.driver_steps.specs.declared.answer.Answer.{Answer}
-use Rattle.driver_steps.specs.declared.answer.Answer.TheVariants.{Offered as OfferedAs, Gone as IsGone}
-use Rattle.driver_steps.specs.declared.answer.Offered.TheVariants.{Closed}
+use Rattle.log_steps.specs.declared.answer.Answer.{Answer}
+use Rattle.log_steps.specs.declared.answer.Answer.TheVariants.{Offered as OfferedAs, Gone as IsGone}
+use Rattle.log_steps.specs.declared.answer.Offered.TheVariants.{Closed}
 use Rattle.driver_steps.specs.declared.step.Step.{Step}
 use Rattle.driver_steps.specs.declared.step.Step.TheVariants.{Conductor, Packet, Offer as Offers, Poll as Polls, Image, List as Lists, Send, Value}
-use Rattle.driver_steps.specs.Ends.{RunEnd, log_at, on_asked, on_image, on_offered_by, on_report_by, on_told, opening_end}
-use Rattle.driver_core.specs.declared.publication_request.JoinRequest.{JoinRequest}
-use Rattle.driver_steps.proofs.HearingLemmas.{status_whole}
-use Rattle.driver_steps.specs.Hearing.{nak_move, status_move}
-use Rattle.driver_steps.specs.Idents.{begins_by, made_by, made_of, stream_ident}
+use Rattle.driver_steps.specs.Ends.{image_by, log_at, moved_by, on_asked, on_image, on_offered, on_packet, on_report, on_told, opening_end, RunEnd}
+use Rattle.driver_core.specs.declared.asked.publication_request.JoinRequest.{JoinRequest}
+use Rattle.log_steps.proofs.HearingLemmas.{status_whole}
+use Rattle.log_steps.specs.Hearing.{nak_move, status_move}
+use Rattle.log_steps.specs.Idents.{begins_by, made_by, made_of, stream_ident}
 use Rattle.driver_steps.specs.Laws.{made_as, made_for}
-use Rattle.driver_steps.specs.Moves.{WholeLog, Move, offer_move, offer_to, offer_under, poll_move, poll_under}
-use Rattle.driver_steps.specs.Receiving.{beat_move, receive_move, unheard}
-use Rattle.driver_steps.specs.Reporting.{report_move}
+use Rattle.log_steps.specs.Moves.{WholeLog, Move, offer_move, offer_to, offer_under, poll_move, poll_under}
+use Rattle.log_steps.specs.Receiving.{beat_move, receive_move, unheard}
+use Rattle.log_steps.specs.Reporting.{report_move}
 use Rattle.driver_steps.specs.Runs.{Reading, AreAnswers, IsAnswerTo, end_of, left_by, moved_to, read_by}
-use Rattle.driver_steps.specs.Seen.{image_seen, moved_seen, packet_seen}
-use Rattle.driver_steps.specs.Sending.{pace_of, send_by, send_move}
+use Rattle.log_steps.specs.Sending.{pace_of, send_by, send_move}
 use Rattle.driver_steps.proofs.EndLemmas.{after_both}
 use Rattle.driver_steps.proofs.FollowLemmas.{Follows, ends_follow}
 use Rattle.driver_steps.proofs.ImageLemmas.{IsOfStream}
 use Rattle.driver_steps.proofs.LiveLemmas.{IsKept, event_keeps, found_log, log_keeps}
-use Rattle.driver_steps.proofs.ReadLemmas.{holds_by}
-use Rattle.driver_steps.proofs.SeenLemmas.{there_now}
-use Rattle.two_drivers.proofs.RowLemmas.{Found, found_only}
+use Rattle.driver_steps.proofs.ServingLemmas.{there_now}
+use Rattle.driver_steps.proofs.SourceLemmas.{Found, found_only}
 use Rattle.frame_codec.specs.declared.fault.BadPacket.{BadPacket}
 use Rattle.frame_codec.specs.declared.header.TermPlace.{TermPlace}
 use Rattle.frame_codec.specs.declared.nak.Nak.{Nak}
@@ -60,19 +58,19 @@ use Rattle.image_log.specs.Frame.{Frame as Kept}
 use Rattle.image_log.specs.Handed.{position_in as place_in}
 use Rattle.image_log.specs.Rebuilt.{Rebuilt, settled}
 use Rattle.image_log.specs.declared.ident.Ident.{Ident as StreamIdent}
-use Rattle.image_receiver.specs.Receiver.{Receiving, after_status}
-use Rattle.image_receiver.specs.Receiving.{after_beat, after_data, after_frame, after_frames}
-use Rattle.image_receiver.proofs.ReceivingLemmas.{ident_stays}
+use Rattle.log_traffic.specs.Receiver.{Receiving, after_status}
+use Rattle.log_traffic.specs.Receiving.{after_beat, after_data, after_frame, after_frames}
+use Rattle.log_traffic.proofs.ReceivingLemmas.{ident_stays}
 use Rattle.two_drivers.specs.Line.{IsLine, stream_of}
 use Rattle.two_drivers.specs.Mirror.{Mirrors}
 use Rattle.two_drivers.specs.Sending.{IsOfLine}
 use Rattle.two_drivers.proofs.MirrorLemmas.{opens, polls, rejoins, takes_in}
 use Rattle.policy_core.specs.declared.verdict.Verdict.{Verdict}
 use Rattle.policy_core.specs.RuleList.{Rules}
-use Rattle.publication_sender.specs.declared.cutting.Pace.{Pace}
+use Rattle.log_traffic.specs.declared.cutting.Pace.{Pace}
 use Rattle.stream_registry.specs.declared.row.Origin.{Origin}
 use Rattle.stream_registry.specs.declared.row.Origin.TheVariants.{Published, Remote}
-use Rattle.stream_registry.specs.declared.row.Source.{Source}
+use Rattle.stream_registry.specs.declared.row.LogRow.{LogRow}
 use Rattle.stream_registry.specs.Images.{image_at, is_image_at}
 use Rattle.stream_registry.specs.Origins.{address_of}
 use Rattle.term_log.specs.declared.ident.Ident.{Ident}
@@ -86,7 +84,7 @@ some_term i r some same = subst (λ (j : StreamIdent). 0 < j.term_length) (sym s
 
 -- ---- a log that begins, and who reads it
 
-begins_mirror : (i : Ident) (line : List Kept) (settings : Settings) (now : ℕ) (log : Source) (origin : Origin) →
+begins_mirror : (i : Ident) (line : List Kept) (settings : Settings) (now : ℕ) (log : LogRow) (origin : Origin) →
     MirrorsIf i line (begins_by settings now log origin)
 begins_mirror i line settings now log (Published exclusive since) = tt
 begins_mirror i line settings now log (Remote address initial_term join) =
@@ -211,13 +209,13 @@ send_by_mirror i line s now log (Some lingers) mirrors = turn_mirror i line (pac
 
 -- ---- the log of an image is of its row's stream
 
-stream_made : (settings : Settings) (session stream : ℤ) (log : Source) (origin : Origin) → log.session ≡ session →
+stream_made : (settings : Settings) (session stream : ℤ) (log : LogRow) (origin : Origin) → log.session ≡ session →
     log.stream ≡ stream → IsOfStream session stream (made_by settings log origin)
 stream_made settings session stream log (Published exclusive since) same_session same_stream = tt
 stream_made settings session stream log (Remote address initial_term join) same_session same_stream =
     (same_session, same_stream)
 
-stream_found : (settings : Settings) (channel : Shape) (session stream : ℤ) (log : Source) →
+stream_found : (settings : Settings) (channel : Shape) (session stream : ℤ) (log : LogRow) →
     is_image_at channel session stream log ≡ true → IsOfStream session stream (made_of settings log)
 unfolding is_image_at
 stream_found settings channel session stream log is =
@@ -227,7 +225,7 @@ stream_found settings channel session stream log is =
     stream_made settings session stream log log.origin ((Decides-int_eq log.session session).0 third.1)
     ((Decides-int_eq log.stream stream).0 second.1)
 
-number_sent : (from : Address) (image : Source) (publisher : Option Address) (source : ℕ) →
+number_sent : (from : Address) (image : LogRow) (publisher : Option Address) (source : ℕ) →
     sent_to from image publisher ≡ Ok source → image.number ≡ source
 number_sent from image None source is = absurd (cc is)
 number_sent from image (Some publisher) source is = number_by (is_same publisher from) is
@@ -245,7 +243,7 @@ unmapped P f [] all = All-nil (λ x. P (f x))
 unmapped P f (x ∷ xs) all =
     All-cons (λ x. P (f x)) x xs (All-head P (f x) (map f xs) all) (unmapped P f xs (All-tail P (f x) (map f xs) all))
 
-stream_by : (e : RunEnd) (from : Address) (channel : Shape) (session stream : ℤ) (source : ℕ) (log : WholeLog) (found : Option Source) →
+stream_by : (e : RunEnd) (from : Address) (channel : Shape) (session stream : ℤ) (source : ℕ) (log : WholeLog) (found : Option LogRow) →
     Follows e → image_at e.registry.streams channel session stream ≡ found → received_by from found ≡ Ok source →
     log_at e.logs source ≡ Some log → IsOfStream session stream (made_any log.whole)
 stream_by e from channel session stream source log None follows is received there = absurd (cc received)
@@ -253,7 +251,7 @@ stream_by e from channel session stream source log (Some image) follows is recei
     let number = number_sent from image (address_of image) source received in
     let s : State = e.registry in
     let Q : ℕ × Made → Type 0 = IsMadeFor session stream image.number in
-    let R : Source → Type 0 = λ row. IsOfStream session stream (made_of s.settings row) in
+    let R : LogRow → Type 0 = λ row. IsOfStream session stream (made_of s.settings row) in
     let found : Found R 0 s.last_number s.streams.sources image =
     found_only R (is_image_at channel session stream) 0 s.last_number s.streams.sources image
     (stream_found s.settings channel session stream) follows.sound.numbered is in
@@ -319,14 +317,14 @@ heard_mirror i line e now from fields (Some request) mirrors =
 
 packet_mirror : (i : Ident) (start : ℕ) (line : List Kept) → 0 < i.term_length → IsLine i.term_length start line → (s : State) (e : RunEnd)
     (now : ℕ) (local from : Address) (bytes : List ℕ) (read : Result Content BadPacket) → packet_of bytes ≡ read → Follows e →
-    IsGood i line bytes → All (MirrorsLog i line) e.logs → All (MirrorsLog i line) (packet_seen s e now local from read).after.logs
+    IsGood i line bytes → All (MirrorsLog i line) e.logs → All (MirrorsLog i line) (on_packet s e now local from read).after.logs
 packet_mirror i start line some is s e now local from bytes (Err fault) reads follows good mirrors = mirrors
 packet_mirror i start line some is s e now local from bytes (Ok (frames [])) reads follows good mirrors = mirrors
 packet_mirror i start line some is s e now local from bytes (Ok (frames (frame ∷ later))) reads follows good mirrors =
-    receive_mirror i start line is e now local from bytes frame later (image_seen s e local from frame.header.place) follows good reads
+    receive_mirror i start line is e now local from bytes frame later (image_by s e local from frame.header.place) follows good reads
     (λ source found. there_now _ _ _ source found) mirrors
 packet_mirror i start line some is s e now local from bytes (Ok (beat header)) reads follows good mirrors =
-    beat_mirror i line e now header.place (image_seen s e local from header.place) mirrors
+    beat_mirror i line e now header.place (image_by s e local from header.place) mirrors
 packet_mirror i start line some is s e now local from bytes (Ok (setup fields)) reads follows good mirrors =
     event_keeps (MirrorsLog i line) e (SetUp now local from fields) (mirror_kept i line some) mirrors
 packet_mirror i start line some is s e now local from bytes (Ok (nak fields)) reads follows good mirrors =
@@ -338,7 +336,7 @@ packet_mirror i start line some is s e now local from bytes (Ok (status fields))
 
 offer_mirror : (i : Ident) (line : List Kept) (s : State) (e : RunEnd) (now client registration : ℕ) (message : List ℕ)
     (o : Option LogRequest) → All (MirrorsLog i line) e.logs →
-    All (MirrorsLog i line) (on_offered_by s e now client registration message o).after.logs
+    All (MirrorsLog i line) (on_offered s e now client registration message o).after.logs
 unfolding offer_move
 offer_mirror i line s e now client registration message None mirrors = mirrors
 offer_mirror i line s e now client registration message (Some request) mirrors =
@@ -348,14 +346,14 @@ offer_mirror i line s e now client registration message (Some request) mirrors =
     mirrors
 
 report_by_mirror : (i : Ident) (line : List Kept) (s : State) (e : RunEnd) (now source : ℕ) (to : Option Address) →
-    All (MirrorsLog i line) e.logs → All (MirrorsLog i line) (on_report_by s e now source to).after.logs
+    All (MirrorsLog i line) e.logs → All (MirrorsLog i line) (on_report s e now source to).after.logs
 report_by_mirror i line s e now source None mirrors = mirrors
 report_by_mirror i line s e now source (Some to) mirrors =
     log_keeps (MirrorsLog i line) e source (report_move now s.settings.receiver_id to) IsGone
     (λ log found there. report_mirror i line now log.recovery.receiver log.whole there.holds) mirrors
 
 moved_mirror : (i : Ident) (start : ℕ) (line : List Kept) → 0 < i.term_length → IsLine i.term_length start line → (s : State) (e : RunEnd)
-    (step : Step) → Follows e → IsGoodStep i line step → All (MirrorsLog i line) e.logs → All (MirrorsLog i line) (moved_seen s e step).after.logs
+    (step : Step) → Follows e → IsGoodStep i line step → All (MirrorsLog i line) e.logs → All (MirrorsLog i line) (moved_by s e step).after.logs
 unfolding poll_move send_move
 moved_mirror i start line some is s e (Conductor event) follows good mirrors =
     event_keeps (MirrorsLog i line) e event (mirror_kept i line some) mirrors
@@ -382,8 +380,7 @@ pub step_mirror : (i : Ident) (start : ℕ) (line : List Kept) → 0 < i.term_le
     All (MirrorsLog i line) (left_by e reading answer).logs
 step_mirror i start line some is e reading answer follows good mirrors =
     after_both (λ end. All (MirrorsLog i line) end.logs) e (moved_to e reading) answer mirrors
-    (holds_by (λ what. All (MirrorsLog i line) what.after.logs) e reading.older reading.step
-    (moved_mirror i start line some is (read_by e reading.older) e reading.step follows good mirrors))
+    (moved_mirror i start line some is (read_by e reading.older) e reading.step follows good mirrors)
 
 -- ---- runs
 

@@ -4,37 +4,35 @@ use Rattle.std.specs.List.{All}
 use Rattle.std.proofs.lemmas.Bool.{cond_both}
 use Rattle.std.proofs.lemmas.List.{append-nil}
 use Rattle.std.proofs.lemmas.List.Elements.{All-weaker}
-use Rattle.any_log.specs.Whole.{AnyWhole, whole, rebuilt, beaten, polled as any_polled, position_in, received, rejoined}
-use Rattle.any_log.proofs.StillLemmas.{IsStill}
 use Rattle.driver_core.specs.Change.{Change}
-use Rattle.driver_core.specs.declared.event.Event.{Event}
-use Rattle.driver_core.specs.declared.event.Event.TheVariants.{Setup as SetUp}
-use Rattle.driver_core.specs.declared.log_request.LogRequest.{LogRequest}
+use Rattle.driver_core.specs.declared.state.event.Event.{Event}
+use Rattle.driver_core.specs.declared.state.event.Event.TheVariants.{Setup as SetUp}
+use Rattle.driver_core.specs.declared.asked.log_request.LogRequest.{LogRequest}
 use Rattle.driver_core.specs.Conduct.{conduct}
 use Rattle.driver_core.specs.LogRequests.{offering_of, receiving_of}
 use Rattle.driver_core.specs.PublicationRequests.{publisher_of}
 use Rattle.driver_core.specs.Pairs.{pairs_of}
 use Rattle.driver_core.specs.Readers.{readers_of}
 use Rattle.driver_core.specs.State.{State}
-use Rattle.driver_steps.specs.declared.answer.Answer.{Answer}
-use Rattle.driver_steps.specs.declared.answer.Answer.TheVariants.{Offered as OfferedAs, Gone as IsGone}
-use Rattle.driver_steps.specs.declared.answer.Offered.TheVariants.{Closed}
+use Rattle.log_steps.specs.declared.answer.Answer.{Answer}
+use Rattle.log_steps.specs.declared.answer.Answer.TheVariants.{Offered as OfferedAs, Gone as IsGone}
+use Rattle.log_steps.specs.declared.answer.Offered.TheVariants.{Closed}
 use Rattle.driver_steps.specs.declared.step.Step.{Step}
 use Rattle.driver_steps.specs.declared.step.Step.TheVariants.{Conductor, Packet, Offer as Offers, Poll as Polls, Image, List as Lists, Send, Value}
-use Rattle.driver_steps.specs.Ends.{RunEnd, conducted, inputs_of, log_at, logs_after, on_log, on_offered_by, opened_for, rejoined_log, stays_open}
-use Rattle.driver_steps.specs.Moves.{WholeLog, Move, offer_move, offer_to, offer_under, poll_move, poll_under}
-use Rattle.driver_steps.specs.Receiving.{beat_move, receive_move, unheard}
+use Rattle.driver_steps.specs.Ends.{conducted, inputs_of, log_at, logs_after, moved_by, on_log, on_offered, opened_for, rejoined_log, RunEnd, stays_open}
+use Rattle.log_steps.specs.Moves.{WholeLog, Move, offer_move, offer_to, offer_under, poll_move, poll_under}
+use Rattle.log_steps.specs.Receiving.{beat_move, receive_move, unheard}
 use Rattle.driver_steps.specs.Runs.{Reading, left_by, moved_to, read_by}
-use Rattle.driver_steps.specs.Seen.{moved_seen}
-use Rattle.driver_steps.specs.Sending.{send_move}
+use Rattle.log_steps.specs.Sending.{send_move}
 use Rattle.driver_steps.proofs.EndLemmas.{after_both}
 use Rattle.driver_steps.proofs.LiveLemmas.{found_log, log_keeps}
 use Rattle.driver_steps.proofs.PacketLemmas.{packet_cases}
 use Rattle.driver_steps.proofs.QuietLemmas.{IsQuiet, report_cases, send_quiet}
-use Rattle.driver_steps.proofs.ReadLemmas.{holds_by}
 use Rattle.frame_codec.specs.declared.header.TermPlace.{TermPlace}
 use Rattle.frame_codec.specs.Datagram.{packet_of}
 use Rattle.frame_codec.specs.Frame.{Sent}
+use Rattle.log_traffic.specs.Whole.{AnyWhole, whole, rebuilt, beaten, polled as any_polled, position_in, received, rejoined}
+use Rattle.log_traffic.proofs.StillLemmas.{IsStill}
 use Rattle.policy_core.specs.declared.verdict.Verdict.{Verdict}
 use Rattle.stream_registry.specs.declared.pairs.Pair.{Pair}
 use Rattle.term_log.specs.Frames.{Frame}
@@ -176,7 +174,7 @@ log_goes n log e source move absent live found grows new is =
     one.holds one.source_is
 
 offer_goes : (n : ℕ) (log : WholeLog) (s : State) (e : RunEnd) (now client registration : ℕ) (message : List ℕ) (o : Option LogRequest) →
-    log_at e.logs n ≡ Some log → AreFound e.logs → GoesOn n log (on_offered_by s e now client registration message o).after.logs
+    log_at e.logs n ≡ Some log → AreFound e.logs → GoesOn n log (on_offered s e now client registration message o).after.logs
 unfolding offer_move
 offer_goes n log s e now client registration message None live found = stays_there n log e.logs live
 offer_goes n log s e now client registration message (Some request) live found =
@@ -204,7 +202,7 @@ unfolding conducted
 event_goes n log e event live = change_goes n log (conduct e.registry event (inputs_of e.registry event e.logs)) e.logs live
 
 moved_goes : (n : ℕ) (log : WholeLog) (s : State) (e : RunEnd) (step : Step) → log_at e.logs n ≡ Some log → AreFound e.logs →
-    GoesOn n log (moved_seen s e step).after.logs
+    GoesOn n log (moved_by s e step).after.logs
 unfolding poll_move
 moved_goes n log s e (Conductor event) live found = event_goes n log e event live
 moved_goes n log s e (Packet now local from bytes) live found =
@@ -236,4 +234,4 @@ pub left_later : (n : ℕ) (log new : WholeLog) (e : RunEnd) (reading : Reading)
     log_at (left_by e reading answer).logs n ≡ Some new → IsLater log.whole new.whole
 left_later n log new e reading answer live found =
     after_both (λ end. GoesOn n log end.logs) e (moved_to e reading) answer (stays_there n log e.logs live)
-    (holds_by (λ what. GoesOn n log what.after.logs) e reading.older reading.step (moved_goes n log (read_by e reading.older) e reading.step live found)) new
+    (moved_goes n log (read_by e reading.older) e reading.step live found) new

@@ -11,7 +11,6 @@ pub mod PollingLemmas
 pub mod PromiseLemmas
 pub mod PublicationLemmas
 pub mod ReadingLemmas
-pub mod RowLemmas
 pub mod RunLemmas
 pub mod SentLemmas
 pub mod SoFarLemmas

@@ -4,7 +4,6 @@ use Rattle.std.specs.List.{All}
 use Rattle.std.specs.Prelude.{IfSome}
 use Rattle.std.proofs.lemmas.List.{append-nil}
 use Rattle.std.proofs.lemmas.List.Elements.{All-filter, All-head, All-tail}
-use Rattle.any_log.proofs.AnyLemmas.{moved_there}
 use Rattle.image_log.specs.Frame.{Frame as Kept, end_of}
 use Rattle.image_log.specs.Order.{Begins, begins_within}
 use Rattle.image_log.specs.Pairs.{IsWithin}
@@ -16,6 +15,7 @@ use Rattle.image_log.proofs.Polls.{polled_some}
 use Rattle.log_pairs.specs.Pairs.{position_of}
 use Rattle.log_pairs.specs.Polling.{Fetched, Polled, behind, counted, fragments_of, passed, with_fragment}
 use Rattle.log_pairs.proofs.Pairing.{at_found}
+use Rattle.log_traffic.proofs.AnyLemmas.{moved_there}
 use Rattle.two_drivers.specs.Line.{IsIn, IsLine, IsRunTo}
 use Rattle.two_drivers.specs.LineLaws.{PollsGoOn}
 use Rattle.two_drivers.specs.Mirror.{Mirrors}

@@ -3,9 +3,8 @@ use Rattle.std.proofs.Common.{◌≡◌, ℕ, ◌==◌, ◌<◌, ◌≤◌, Bool
 use Rattle.std.specs.List.{All, Contains}
 use Rattle.std.proofs.lemmas.Bool.{eqb-true, eq-eqb}
 use Rattle.std.proofs.lemmas.List.Elements.{All-nil, All-cons, All-head, All-weaker, All-contains_itself, Contains-append_cases, Contains-append_right}
-use Rattle.any_log.specs.Held.{Made}
-use Rattle.driver_core.specs.declared.event.Event.{Event}
-use Rattle.driver_core.specs.declared.event.Inputs.{Inputs}
+use Rattle.driver_core.specs.declared.state.event.Event.{Event}
+use Rattle.driver_core.specs.declared.state.event.Inputs.{Inputs}
 use Rattle.driver_core.specs.Conduct.{state_after, state_of}
 use Rattle.driver_core.specs.State.{State}
 use Rattle.driver_core.proofs.ListLemmas.{contains_none, only_one}
@@ -14,14 +13,15 @@ use Rattle.driver_laws.specs.PublishingLaws.{WasLive}
 use Rattle.driver_laws.proofs.NewNumberLemmas.{comes_above}
 use Rattle.driver_laws.proofs.NumberLemmas.{event_rises}
 use Rattle.driver_laws.proofs.RisingLemmas.{between}
-use Rattle.driver_steps.specs.declared.answer.Answer.{Answer}
+use Rattle.log_steps.specs.declared.answer.Answer.{Answer}
 use Rattle.driver_steps.specs.Ends.{RunEnd, log_at}
 use Rattle.driver_steps.specs.Laws.{event_of, made_as, made_for}
-use Rattle.driver_steps.specs.Moves.{WholeLog}
-use Rattle.driver_steps.specs.Runs.{Reading, left_by, moved_to}
-use Rattle.driver_steps.proofs.EndLemmas.{after_both, reading_takes}
+use Rattle.log_steps.specs.Moves.{WholeLog}
+use Rattle.driver_steps.specs.Runs.{Reading, left_by, moved_to, read_by}
+use Rattle.driver_steps.proofs.EndLemmas.{after_both, moved_takes}
 use Rattle.driver_steps.proofs.FollowLemmas.{Follows}
-use Rattle.stream_registry.specs.declared.row.Source.{Source}
+use Rattle.log_traffic.specs.Held.{Made}
+use Rattle.stream_registry.specs.declared.row.LogRow.{LogRow}
 use Rattle.two_drivers.proofs.LaterLemmas.{AreFound}
 
 -- ---- the numbers of logs are those of their rows
@@ -29,20 +29,20 @@ use Rattle.two_drivers.proofs.LaterLemmas.{AreFound}
 source_of : WholeLog → ℕ
 source_of log = log.source
 
-number_of : Source → ℕ
+number_of : LogRow → ℕ
 number_of row = row.number
 
 first_of : ℕ × Made → ℕ
 first_of made = made.0
 
 -- rows of the same numbers
-abbrev AreNumbered : List WholeLog → List Source → Type 0
+abbrev AreNumbered : List WholeLog → List LogRow → Type 0
 AreNumbered [] [] = Unit {0}
 AreNumbered [] (row ∷ rows) = ⊥
 AreNumbered (log ∷ logs) [] = ⊥
 AreNumbered (log ∷ logs) (row ∷ rows) = (log.source ≡ row.number) × AreNumbered logs rows
 
-numbered_by : (e : State) (logs : List WholeLog) (rows : List Source) → map made_for logs ≡ map (made_as e.settings) rows → AreNumbered logs rows
+numbered_by : (e : State) (logs : List WholeLog) (rows : List LogRow) → map made_for logs ≡ map (made_as e.settings) rows → AreNumbered logs rows
 numbered_by e [] [] same = tt
 numbered_by e [] (row ∷ rows) same = absurd (cc same)
 numbered_by e (log ∷ logs) [] same = absurd (cc same)
@@ -63,7 +63,7 @@ past_more : (low lower : ℕ) (logs : List WholeLog) → lower ≤ low → ArePa
 past_more low lower logs below past =
     All-weaker (λ (log : WholeLog). low < log.source) (λ (log : WholeLog). lower < log.source) (λ log high. omega (arith, high, below)) logs past
 
-past_by : (low last : ℕ) (logs : List WholeLog) (rows : List Source) → AreNumbered logs rows → Rises (λ (row : Source). row.number) low last rows →
+past_by : (low last : ℕ) (logs : List WholeLog) (rows : List LogRow) → AreNumbered logs rows → Rises (λ (row : LogRow). row.number) low last rows →
     ArePast low logs
 past_by low last [] rows same up = All-nil (λ (log : WholeLog). low < log.source)
 past_by low last (log ∷ logs) [] same up = absurd same
@@ -85,7 +85,7 @@ all_both P Q R (log ∷ logs) both ps qs =
     All-cons R log logs (both log (All-head P log logs ps) (All-head Q log logs qs))
     (all_both P Q R logs both (Rattle.std.proofs.lemmas.List.Elements.All-tail P log logs ps) (Rattle.std.proofs.lemmas.List.Elements.All-tail Q log logs qs))
 
-found_by : (low last : ℕ) (logs : List WholeLog) (rows : List Source) → AreNumbered logs rows → Rises (λ (row : Source). row.number) low last rows →
+found_by : (low last : ℕ) (logs : List WholeLog) (rows : List LogRow) → AreNumbered logs rows → Rises (λ (row : LogRow). row.number) low last rows →
     AreFound logs
 found_by low last [] rows same up = All-nil (λ (log : WholeLog). log_at [] log.source ≡ Some log)
 found_by low last (first ∷ logs) [] same up = absurd same
@@ -104,15 +104,15 @@ are_found e follows rises = found_by 0 e.registry.last_number e.logs e.registry.
 
 -- ---- a log and its row
 
-pub record IsRow (n : ℕ) (rows : List Source) : Type 0 where
-  pub row : Source
+pub record IsRow (n : ℕ) (rows : List LogRow) : Type 0 where
+  pub row : LogRow
   pub has : Contains rows row
   pub number : row.number ≡ n
 
-head_row : (row : Source) (rows : List Source) → Contains (row ∷ rows) row
+head_row : (row : LogRow) (rows : List LogRow) → Contains (row ∷ rows) row
 head_row row rows = All-head (Contains (row ∷ rows)) row rows (All-contains_itself (row ∷ rows))
 
-row_in : (n : ℕ) (first log : WholeLog) (logs : List WholeLog) (row : Source) (rows : List Source) (b : Bool) → (first.source == n) ≡ b →
+row_in : (n : ℕ) (first log : WholeLog) (logs : List WholeLog) (row : LogRow) (rows : List LogRow) (b : Bool) → (first.source == n) ≡ b →
     first.source ≡ row.number → cond b (Some first) (log_at logs n) ≡ Some log → (log_at logs n ≡ Some log → IsRow n rows) → IsRow n (row ∷ rows)
 row_in n first log logs row rows true same is found rest =
     record { row = row; has = head_row row rows; number = sym is ∙ eqb-true first.source n same }
@@ -120,22 +120,22 @@ row_in n first log logs row rows false same is found rest =
     let there = rest found in
     record { row = there.row; has = Contains-append_right (row ∷ []) rows there.row there.has; number = there.number }
 
-row_of : (n : ℕ) (log : WholeLog) (logs : List WholeLog) (rows : List Source) → AreNumbered logs rows → log_at logs n ≡ Some log → IsRow n rows
+row_of : (n : ℕ) (log : WholeLog) (logs : List WholeLog) (rows : List LogRow) → AreNumbered logs rows → log_at logs n ≡ Some log → IsRow n rows
 row_of n log [] rows same found = absurd (cc found)
 row_of n log (first ∷ logs) [] same found = absurd same
 row_of n log (first ∷ logs) (row ∷ rows) same found =
     row_in n first log logs row rows (first.source == n) refl same.0 found (row_of n log logs rows same.1)
 
-none_in : (n : ℕ) (first : WholeLog) (logs : List WholeLog) (row one : Source) (rows : List Source) (b : Bool) → (first.source == n) ≡ b →
+none_in : (n : ℕ) (first : WholeLog) (logs : List WholeLog) (row one : LogRow) (rows : List LogRow) (b : Bool) → (first.source == n) ≡ b →
     first.source ≡ row.number → cond b (Some first) (log_at logs n) ≡ None → one.number ≡ n → (row ≡ one) ⊎ Contains rows one →
     (log_at logs n ≡ None → Contains rows one → ⊥) → ⊥
 none_in n first logs row one rows true same is found number which rest = absurd (cc found)
 none_in n first logs row one rows false same is found number which rest =
-    ⊎_elim (λ (here : row ≡ one). absurd (cc (sym (eq-eqb first.source n (is ∙ ap (λ (r : Source). r.number) here ∙ number)) ∙ same)))
+    ⊎_elim (λ (here : row ≡ one). absurd (cc (sym (eq-eqb first.source n (is ∙ ap (λ (r : LogRow). r.number) here ∙ number)) ∙ same)))
     (λ later. rest found later) which
 
 -- no row has the number of none
-none_of : (n : ℕ) (one : Source) (logs : List WholeLog) (rows : List Source) → AreNumbered logs rows → log_at logs n ≡ None → one.number ≡ n →
+none_of : (n : ℕ) (one : LogRow) (logs : List WholeLog) (rows : List LogRow) → AreNumbered logs rows → log_at logs n ≡ None → one.number ≡ n →
     Contains rows one → ⊥
 none_of n one logs [] same found number has = contains_none one has
 none_of n one [] (row ∷ rows) same found number has = absurd same
@@ -149,7 +149,7 @@ none_of n one (first ∷ logs) (row ∷ rows) same found number has =
 pub record Draws (s after : State) : Type 0 where
   pub rises : AreRising after
   pub last : s.last_number ≤ after.last_number
-  pub comes : (row : Source) → Contains after.streams.sources row → IsRow row.number s.streams.sources ⊎ (s.last_number < row.number)
+  pub comes : (row : LogRow) → Contains after.streams.sources row → IsRow row.number s.streams.sources ⊎ (s.last_number < row.number)
 
 draws_then : (s t u : State) → Draws s t → Draws t u → Draws s u
 draws_then s t u first second = record {
@@ -174,7 +174,7 @@ event_draws s event inputs rises =
       last = next.draws.last;
       comes = λ row has.
           ⊎_elim
-          (λ (live : WasLive s.streams row). inl (record { row = live.before; has = live.stood; number = ap (λ (r : Source). r.number) (sym live.same) }))
+          (λ (live : WasLive s.streams row). inl (record { row = live.before; has = live.stood; number = ap (λ (r : LogRow). r.number) (sym live.same) }))
           (λ high. inr high)
           ((comes_above s event inputs).sources row has);
     }
@@ -192,7 +192,7 @@ events_draw s (one ∷ more) rises =
 pub left_draws : (e : RunEnd) (reading : Reading) (answer : Answer) → AreRising e.registry → Draws e.registry (left_by e reading answer).registry
 left_draws e reading answer rises =
     after_both (λ end. Draws e.registry end.registry) e (moved_to e reading) answer (events_draw e.registry [] rises)
-    (subst (Draws e.registry) (sym (reading_takes e reading.older reading.step)) (events_draw e.registry (event_of e reading.step) rises))
+    (subst (Draws e.registry) (sym (moved_takes (read_by e reading.older) e reading.step)) (events_draw e.registry (event_of e reading.step) rises))
 
 -- ---- a number that was drawn, and no log's now
 
@@ -203,7 +203,7 @@ pub record IsPast (n : ℕ) (e : RunEnd) : Type 0 where
 pub drawn_at : (n : ℕ) (log : WholeLog) (e : RunEnd) → Follows e → AreRising e.registry → log_at e.logs n ≡ Some log → n ≤ e.registry.last_number
 drawn_at n log e follows rises live =
     let is = row_of n log e.logs e.registry.streams.sources (numbered e follows) live in
-    let high = (between (λ (row : Source). row.number) 0 e.registry.last_number e.registry.streams.sources is.row rises.sources is.has).1 in
+    let high = (between (λ (row : LogRow). row.number) 0 e.registry.last_number e.registry.streams.sources is.row rises.sources is.has).1 in
     let number = is.number in
     omega (arith, high, number)
 

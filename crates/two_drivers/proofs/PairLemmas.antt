@@ -2,42 +2,42 @@
 use Rattle.std.proofs.Common.{◌≡◌, ℕ, ◌==◌, ◌||◌, not, Bool, true, false, cond, List, [], ◌∷◌, map, filter, Some, refl, sym, ap, ◌∙◌, subst}
 use Rattle.std.specs.List.{list_any}
 use Rattle.std.proofs.lemmas.Bool.{and_parts, eqb-true, eq-eqb}
-use Rattle.any_log.specs.Held.{Made}
-use Rattle.any_log.specs.Whole.{AnyWhole, whole, rebuilt, made_for as made_any, readers_in}
-use Rattle.driver_core.specs.declared.settings.Settings.{Settings}
+use Rattle.driver_core.specs.declared.state.settings.Settings.{Settings}
 use Rattle.driver_core.specs.LogRequests.{has_pair}
 use Rattle.driver_core.specs.Pairs.{pairs_of}
 use Rattle.driver_core.specs.Readers.{readers_of}
 use Rattle.driver_core.specs.Renewal.{source_at}
 use Rattle.driver_steps.specs.Ends.{RunEnd, log_at}
-use Rattle.driver_steps.specs.Idents.{made_by, made_of, stream_ident}
+use Rattle.log_steps.specs.Idents.{made_by, made_of, stream_ident}
 use Rattle.driver_steps.specs.Laws.{made_as, made_for}
-use Rattle.driver_steps.specs.Moves.{WholeLog}
+use Rattle.log_steps.specs.Moves.{WholeLog}
 use Rattle.driver_steps.proofs.FollowLemmas.{Follows}
 use Rattle.driver_steps.proofs.LiveLemmas.{found_log}
 use Rattle.image_log.specs.Rebuilt.{Rebuilt}
 use Rattle.image_log.specs.declared.ident.Ident.{Ident as StreamIdent}
 use Rattle.log_pairs.specs.Pairs.{position_of}
 use Rattle.log_pairs.specs.declared.pair.Pair.{Pair as Reader}
+use Rattle.log_traffic.specs.Held.{Made}
+use Rattle.log_traffic.specs.Whole.{AnyWhole, whole, rebuilt, made_for as made_any, readers_in}
 use Rattle.stream_registry.specs.Pairs.{is_of}
 use Rattle.stream_registry.specs.Origins.{is_published_by}
 use Rattle.stream_registry.specs.declared.pairs.Pair.{Pair}
 use Rattle.stream_registry.specs.declared.row.Origin.{Origin}
 use Rattle.stream_registry.specs.declared.row.Origin.TheVariants.{Published, Remote}
-use Rattle.stream_registry.specs.declared.row.Source.{Source}
+use Rattle.stream_registry.specs.declared.row.LogRow.{LogRow}
 use Rattle.term_log.specs.declared.ident.Ident.{Ident}
 use Rattle.two_drivers.specs.Publication.{IsPair}
 use Rattle.two_drivers.specs.Streams.{IsRead}
 
 -- ---- the log of a row
 
-record IsLogOf (n : ℕ) (settings : Settings) (row : Source) (logs : List WholeLog) : Type 0 where
+record IsLogOf (n : ℕ) (settings : Settings) (row : LogRow) (logs : List WholeLog) : Type 0 where
   log : WholeLog
   live : log_at logs n ≡ Some log
   made : made_any log.whole ≡ made_of settings row
   number : log.source ≡ n
 
-log_in : (n : ℕ) (settings : Settings) (first : WholeLog) (logs : List WholeLog) (head row : Source) (rows : List Source) (b : Bool) →
+log_in : (n : ℕ) (settings : Settings) (first : WholeLog) (logs : List WholeLog) (head row : LogRow) (rows : List LogRow) (b : Bool) →
     (head.number == n) ≡ b → made_for first ≡ made_as settings head → cond b (Some head) (source_at rows n) ≡ Some row →
     (source_at rows n ≡ Some row → IsLogOf n settings row logs) → IsLogOf n settings row (first ∷ logs)
 log_in n settings first logs head row rows true same made found rest =
@@ -54,7 +54,7 @@ log_in n settings first logs head row rows false same made found rest =
     let apart : (first.source == n) ≡ false = ap (λ (m : ℕ × Made). m.0 == n) made ∙ same in
     record { log = there.log; live = rw apart there.live; made = there.made; number = there.number }
 
-log_of_row : (n : ℕ) (settings : Settings) (row : Source) (logs : List WholeLog) (rows : List Source) →
+log_of_row : (n : ℕ) (settings : Settings) (row : LogRow) (logs : List WholeLog) (rows : List LogRow) →
     map made_for logs ≡ map (made_as settings) rows → source_at rows n ≡ Some row → IsLogOf n settings row logs
 log_of_row n settings row logs [] same found = absurd (cc found)
 log_of_row n settings row [] (head ∷ rows) same found = absurd (cc same)
@@ -65,13 +65,13 @@ log_of_row n settings row (first ∷ logs) (head ∷ rows) same found =
 
 -- ---- it is an image
 
-record IsImageOf (row : Source) (w : AnyWhole) : Type 0 where
+record IsImageOf (row : LogRow) (w : AnyWhole) : Type 0 where
   r : Rebuilt
   whole_is : w ≡ rebuilt r
   session : r.ident.session_id ≡ row.session
   stream : r.ident.stream_id ≡ row.stream
 
-image_by : (settings : Settings) (row : Source) (origin : Origin) (w : AnyWhole) → not (is_published_by origin) ≡ true →
+image_by : (settings : Settings) (row : LogRow) (origin : Origin) (w : AnyWhole) → not (is_published_by origin) ≡ true →
     made_any w ≡ made_by settings row origin → IsImageOf row w
 image_by settings row (Published exclusive since) w image made = absurd (cc image)
 image_by settings row (Remote address initial_term join) (whole w) image made = absurd (cc made)

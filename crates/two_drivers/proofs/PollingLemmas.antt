@@ -5,15 +5,15 @@ use Rattle.std.specs.Prelude.{IfSome}
 use Rattle.std.proofs.lemmas.Bool.{and_parts, cond_both, eqb-true, eq-eqb}
 use Rattle.std.proofs.lemmas.List.{append-nil}
 use Rattle.std.proofs.lemmas.List.Elements.{All-nil, All-cons}
-use Rattle.any_log.specs.Whole.{AnyWhole, whole, rebuilt, beaten, pairs_in, polled as any_polled, position_in, received, rejoined}
-use Rattle.any_log.proofs.StillLemmas.{IsStill}
+use Rattle.log_traffic.specs.Whole.{AnyWhole, whole, rebuilt, beaten, pairs_in, polled as any_polled, position_in, received, rejoined}
+use Rattle.log_traffic.proofs.StillLemmas.{IsStill}
 use Rattle.channel_uri.specs.declared.address.Address.{Address}
 use Rattle.driver_core.specs.Change.{Change}
-use Rattle.driver_core.specs.declared.event.Event.{Event}
-use Rattle.driver_core.specs.declared.event.Event.TheVariants.{Setup as SetUp}
-use Rattle.driver_core.specs.declared.log_request.LogRequest.{LogRequest}
-use Rattle.driver_core.specs.declared.peer.Peer.{Peer}
-use Rattle.driver_core.specs.declared.settings.Settings.{Settings}
+use Rattle.driver_core.specs.declared.state.event.Event.{Event}
+use Rattle.driver_core.specs.declared.state.event.Event.TheVariants.{Setup as SetUp}
+use Rattle.driver_core.specs.declared.asked.log_request.LogRequest.{LogRequest}
+use Rattle.driver_core.specs.declared.state.peer.Peer.{Peer}
+use Rattle.driver_core.specs.declared.state.settings.Settings.{Settings}
 use Rattle.driver_core.specs.Conduct.{conduct}
 use Rattle.driver_core.specs.LogRequests.{offering_of, receiving_of}
 use Rattle.driver_core.specs.PublicationRequests.{publisher_of}
@@ -21,29 +21,27 @@ use Rattle.driver_core.specs.Pairs.{pairs_of}
 use Rattle.driver_core.specs.Readers.{readers_of}
 use Rattle.driver_core.specs.Soundness.{AreSettings}
 use Rattle.driver_core.specs.State.{State}
-use Rattle.driver_steps.specs.declared.answer.Answer.{Answer}
-use Rattle.driver_steps.specs.declared.answer.Answer.TheVariants.{Denied, NoMemory, Offered as OfferedAs, Polled, Gone as IsGone}
-use Rattle.driver_steps.specs.declared.answer.Offered.TheVariants.{Closed}
+use Rattle.log_steps.specs.declared.answer.Answer.{Answer}
+use Rattle.log_steps.specs.declared.answer.Answer.TheVariants.{Denied, NoMemory, Offered as OfferedAs, Polled, Gone as IsGone}
+use Rattle.log_steps.specs.declared.answer.Offered.TheVariants.{Closed}
 use Rattle.driver_steps.specs.declared.step.Step.{Step}
 use Rattle.driver_steps.specs.declared.step.Step.TheVariants.{Conductor, Packet, Offer as Offers, Poll as Polls, Image, List as Lists, Send, Value}
-use Rattle.driver_steps.specs.Ends.{RunEnd, conducted, inputs_of, log_at, logs_after, moved_on, on_log, on_offered_by, opened_for, opening_end, rejoined_log, stays_open, with_log}
-use Rattle.driver_steps.specs.Held.{is_closed}
-use Rattle.driver_steps.specs.Moves.{WholeLog, Move, given, offer_move, offer_to, offer_under, poll_move, poll_under}
-use Rattle.driver_steps.specs.Receiving.{beat_move, receive_move, unheard}
+use Rattle.driver_steps.specs.Ends.{conducted, inputs_of, log_at, logs_after, moved_by, moved_on, on_log, on_offered, opened_for, opening_end, rejoined_log, RunEnd, stays_open, with_log}
+use Rattle.driver_steps.specs.OpenLogs.{is_closed}
+use Rattle.log_steps.specs.Moves.{WholeLog, Move, given, offer_move, offer_to, offer_under, poll_move, poll_under}
+use Rattle.log_steps.specs.Receiving.{beat_move, receive_move, unheard}
 use Rattle.driver_steps.specs.Runs.{Reading, AreAnswers, IsAnswerTo, end_of, left_by, moved_to, read_by}
-use Rattle.driver_steps.specs.Seen.{moved_seen}
-use Rattle.driver_steps.specs.Sending.{send_move}
+use Rattle.log_steps.specs.Sending.{send_move}
 use Rattle.driver_steps.proofs.LiveLemmas.{found_log, step_either}
 use Rattle.driver_steps.proofs.PacketLemmas.{frames_pairs, packet_cases}
 use Rattle.driver_steps.proofs.QuietLemmas.{IsQuiet, report_cases, send_quiet}
-use Rattle.driver_steps.proofs.ReadLemmas.{holds_by}
 use Rattle.frame_codec.specs.declared.header.TermPlace.{TermPlace}
 use Rattle.frame_codec.specs.Datagram.{packet_of}
 use Rattle.frame_codec.specs.Frame.{Sent}
 use Rattle.image_log.specs.Frame.{Frame as Kept}
 use Rattle.image_log.specs.Polling.{polled as image_polled, polled_from}
 use Rattle.image_log.specs.Rebuilt.{Rebuilt, contiguous_of, settled}
-use Rattle.image_receiver.specs.Receiving.{after_beat, after_data}
+use Rattle.log_traffic.specs.Receiving.{after_beat, after_data}
 use Rattle.log_pairs.specs.Pairs.{moved_one, position_of, reads_on, rejoined_pairs}
 use Rattle.log_pairs.specs.Polling.{Fetched}
 use Rattle.log_pairs.specs.declared.pair.Pair.{Pair as Reader}
@@ -167,7 +165,7 @@ offer_under_put source subscription s now message log (Some request) =
     (λ _. offer_put source subscription now s.settings.connection_timeout request.decision.verdict message log log.whole refl)
 
 offers_put : (source subscription : ℕ) (s : State) (e : RunEnd) (now client registration : ℕ) (message : List ℕ) (o : Option LogRequest) →
-    stood source subscription (on_offered_by s e now client registration message o).after.logs ≡ stood source subscription e.logs
+    stood source subscription (on_offered s e now client registration message o).after.logs ≡ stood source subscription e.logs
 unfolding offer_move
 offers_put source subscription s e now client registration message None = refl
 offers_put source subscription s e now client registration message (Some request) =
@@ -176,23 +174,23 @@ offers_put source subscription s e now client registration message (Some request
 
 -- ---- a poll of another log, or by another subscription
 
-moved_by : (subscription other position : ℕ) (b c : Bool) (pair : Reader) (pairs : List Reader) → (pair.subscription == other) ≡ b →
+reader_moved : (subscription other position : ℕ) (b c : Bool) (pair : Reader) (pairs : List Reader) → (pair.subscription == other) ≡ b →
     (pair.subscription == subscription) ≡ c → (other == subscription) ≡ false →
     position_of (map (moved_one other position) pairs) subscription ≡ position_of pairs subscription →
     position_of (cond b (record pair { position = position }) pair ∷ map (moved_one other position) pairs) subscription
     ≡ position_of (pair ∷ pairs) subscription
-moved_by subscription other position true true pair pairs is at apart rest =
+reader_moved subscription other position true true pair pairs is at apart rest =
     let same : other ≡ subscription = sym (eqb-true pair.subscription other is) ∙ eqb-true pair.subscription subscription at in
     absurd (cc (sym (eq-eqb other subscription same) ∙ apart))
-moved_by subscription other position true false pair pairs is at apart rest = rw at rest
-moved_by subscription other position false true pair pairs is at apart rest = rw at refl
-moved_by subscription other position false false pair pairs is at apart rest = rw at rest
+reader_moved subscription other position true false pair pairs is at apart rest = rw at rest
+reader_moved subscription other position false true pair pairs is at apart rest = rw at refl
+reader_moved subscription other position false false pair pairs is at apart rest = rw at rest
 
 moved_elsewhere : (subscription other position : ℕ) (pairs : List Reader) → (other == subscription) ≡ false →
     position_of (map (moved_one other position) pairs) subscription ≡ position_of pairs subscription
 moved_elsewhere subscription other position [] apart = refl
 moved_elsewhere subscription other position (pair ∷ pairs) apart =
-    moved_by subscription other position (pair.subscription == other) (pair.subscription == subscription) pair pairs refl refl apart
+    reader_moved subscription other position (pair.subscription == other) (pair.subscription == subscription) pair pairs refl refl apart
     (moved_elsewhere subscription other position pairs apart)
 
 term_elsewhere : (w : Whole) (subscription other limit : ℕ) (o : Option ℕ) → (other == subscription) ≡ false →
@@ -552,7 +550,7 @@ poll_goes i start line s e now client number log limit source subscription so_fa
 
 packet_goes : (i : Ident) (line : List Kept) (s : State) (e : RunEnd) (now : ℕ) (local from : Address) (bytes : List ℕ) (source subscription : ℕ)
     (so_far : List Fetched) → (re : Reads i source subscription e) → IsRunTo line re.at so_far →
-    (after' : Reads i source subscription (moved_seen s e (Packet now local from bytes)).after) → IsRunTo line after'.at (so_far ++ [])
+    (after' : Reads i source subscription (moved_by s e (Packet now local from bytes)).after) → IsRunTo line after'.at (so_far ++ [])
 packet_goes i line s e now local from bytes source subscription so_far re run =
     packet_cases (λ what. (after' : Reads i source subscription what.after) → IsRunTo line after'.at (so_far ++ [])) s e now local from (record {
       drops = λ cause. put_goes i line source subscription so_far [] e e re refl refl run;
@@ -572,7 +570,7 @@ packet_goes i line s e now local from bytes source subscription so_far re run =
 
 moved_goes : (i : Ident) (start : ℕ) (line : List Kept) (s : State) (e : RunEnd) (step : Step) (source subscription : ℕ) (so_far : List Fetched) →
     IsLine i.term_length start line → All (MirrorsLog i line) e.logs → (re : Reads i source subscription e) → IsRunTo line re.at so_far →
-    Goes i line source subscription so_far step (moved_seen s e step).answer (moved_seen s e step).after
+    Goes i line source subscription so_far step (moved_by s e step).answer (moved_by s e step).after
 moved_goes i start line s e (Conductor event) source subscription so_far is mirrors re run =
     event_goes i line source subscription so_far e event re run
 moved_goes i start line s e (Packet now local from bytes) source subscription so_far is mirrors re run =
@@ -613,8 +611,7 @@ pub step_goes : (i : Ident) (start : ℕ) (line : List Kept) (e : RunEnd) (readi
 step_goes i start line e reading answer source subscription so_far is mirrors re run answered =
     step_either (Goes i line source subscription so_far reading.step) e (moved_to e reading) answer answered
     (put_goes i line source subscription so_far _ e e re (none_polled source subscription reading.step) refl run)
-    (holds_by (λ what. Goes i line source subscription so_far reading.step what.answer what.after) e reading.older reading.step
-    (moved_goes i start line (read_by e reading.older) e reading.step source subscription so_far is mirrors re run))
+    (moved_goes i start line (read_by e reading.older) e reading.step source subscription so_far is mirrors re run)
 
 -- ---- runs
 

@@ -36,11 +36,11 @@ use Rattle.frame_codec.proofs.RoundTrips.{half_back, number_back, setup_again}
 use Rattle.frame_codec.proofs.WriteBack.{found, type_number}
 use Rattle.image_log.specs.Frame.{Frame as Kept, framed}
 use Rattle.image_log.specs.Handed.{position_in, span_of}
-use Rattle.publication_sender.specs.declared.cutting.DatagramKind.{DatagramKind}
-use Rattle.publication_sender.specs.declared.cutting.DatagramKind.TheVariants as kinds
-use Rattle.publication_sender.specs.Cutting.{beat_flags, bytes_as, datagram_of, due_of, setup_at}
-use Rattle.publication_sender.specs.Datagrams.{ahead, datagrams_in, datagrams_of, first_run, fits, fitting}
-use Rattle.publication_sender.specs.Resending.{asked_at, asked_of, resent_of}
+use Rattle.log_traffic.specs.declared.cutting.DatagramKind.{DatagramKind}
+use Rattle.log_traffic.specs.declared.cutting.DatagramKind.TheVariants as kinds
+use Rattle.log_traffic.specs.Cutting.{beat_flags, bytes_as, datagram_of, due_of, setup_at}
+use Rattle.log_traffic.specs.Datagrams.{ahead, datagrams_in, datagrams_of, first_run, fits, fitting}
+use Rattle.log_traffic.specs.Resending.{asked_at, asked_of, resent_of}
 use Rattle.term_log.specs.declared.ident.Ident.{Ident}
 use Rattle.term_log.specs.Frames.{Frame, IsFrame, IsRun, fragment, pad, pad_flags, span, total}
 use Rattle.term_log.specs.Ident.{IsIdent, greatest_position, place_at}

@@ -3,52 +3,50 @@ use Rattle.std.proofs.Common.{◌≡◌, ℤ, ℕ, ◌==◌, ◌+◌, not, nat_l
 use Rattle.std.specs.List.{All}
 use Rattle.std.proofs.lemmas.Bool.{cond_both}
 use Rattle.std.proofs.lemmas.List.Elements.{All-nil, All-cons, All-head, All-append, All-map, All-weaker}
-use Rattle.any_log.specs.declared.asking.NakReply.{NakReply}
-use Rattle.any_log.specs.declared.asking.NakReply.TheVariants as replies
-use Rattle.any_log.specs.Asking.{after_status as after_hearing, nak_reply, reply_by, status_answer}
-use Rattle.any_log.specs.Reporting.{after_report, report_of}
-use Rattle.any_log.specs.Sending.{after_turn, turn_of}
-use Rattle.any_log.specs.Whole.{AnyWhole, whole, rebuilt, beaten, polled as any_polled, position_in, received, rejoined}
+use Rattle.log_traffic.specs.declared.asking.NakReply.{NakReply}
+use Rattle.log_traffic.specs.declared.asking.NakReply.TheVariants as replies
+use Rattle.log_traffic.specs.Asking.{after_status as after_hearing, nak_reply, reply_by, status_answer}
+use Rattle.log_traffic.specs.Reporting.{after_report, report_of}
+use Rattle.log_traffic.specs.Sending.{after_turn, turn_of}
+use Rattle.log_traffic.specs.Whole.{AnyWhole, whole, rebuilt, beaten, polled as any_polled, position_in, received, rejoined}
 use Rattle.channel_uri.specs.declared.address.Address.{Address}
-use Rattle.driver_core.specs.declared.event.Event.{Event}
-use Rattle.driver_core.specs.declared.event.Event.TheVariants.{Setup as SetUp}
-use Rattle.driver_core.specs.declared.listing.Listed.{Listed}
-use Rattle.driver_core.specs.declared.listing.Listed.TheVariants as listed
-use Rattle.driver_core.specs.declared.listing.Shown.{Shown}
-use Rattle.driver_core.specs.declared.listing.Shown.TheVariants as shown
-use Rattle.driver_core.specs.declared.log_request.LogRequest.{LogRequest}
-use Rattle.driver_core.specs.declared.outcome.Response.{Response}
-use Rattle.driver_core.specs.declared.outcome.Response.TheVariants as response
-use Rattle.driver_core.specs.declared.peer.Peer.{Peer}
-use Rattle.driver_core.specs.declared.replies.Message.{Message}
-use Rattle.driver_core.specs.declared.send_request.Outlet.{Outlet}
-use Rattle.driver_core.specs.declared.settings.Settings.{Settings}
+use Rattle.driver_core.specs.declared.state.event.Event.{Event}
+use Rattle.driver_core.specs.declared.state.event.Event.TheVariants.{Setup as SetUp}
+use Rattle.driver_core.specs.declared.asked.listing.Listed.{Listed}
+use Rattle.driver_core.specs.declared.asked.listing.Listed.TheVariants as listed
+use Rattle.driver_core.specs.declared.asked.listing.Shown.{Shown}
+use Rattle.driver_core.specs.declared.asked.listing.Shown.TheVariants as shown
+use Rattle.driver_core.specs.declared.asked.log_request.LogRequest.{LogRequest}
+use Rattle.driver_core.specs.declared.state.outcome.Response.{Response}
+use Rattle.driver_core.specs.declared.state.outcome.Response.TheVariants as response
+use Rattle.driver_core.specs.declared.state.peer.Peer.{Peer}
+use Rattle.driver_core.specs.declared.state.replies.Message.{Message}
+use Rattle.driver_core.specs.declared.asked.send_request.Outlet.{Outlet}
+use Rattle.driver_core.specs.declared.state.settings.Settings.{Settings}
 use Rattle.driver_core.specs.Listing.{list, value}
 use Rattle.driver_core.specs.LogRequests.{offering_of, receiving_of}
 use Rattle.driver_core.specs.PublicationRequests.{joining_of, publisher_of, resending_of}
 use Rattle.driver_core.specs.Readers.{readers_of}
 use Rattle.driver_core.specs.SendRequests.{outlets_of, sending_of}
 use Rattle.driver_core.specs.State.{State}
-use Rattle.driver_steps.specs.declared.answer.Answer.{Answer}
-use Rattle.driver_steps.specs.declared.answer.Answer.TheVariants.{Offered as OfferedAs, Gone as IsGone}
-use Rattle.driver_steps.specs.declared.answer.Offered.TheVariants.{Closed}
+use Rattle.log_steps.specs.declared.answer.Answer.{Answer}
+use Rattle.log_steps.specs.declared.answer.Answer.TheVariants.{Offered as OfferedAs, Gone as IsGone}
+use Rattle.log_steps.specs.declared.answer.Offered.TheVariants.{Closed}
 use Rattle.driver_steps.specs.declared.step.Step.{Step}
 use Rattle.driver_steps.specs.declared.step.Step.TheVariants.{Conductor, Packet, Offer as Offers, Poll as Polls, Image, List as Lists, Send, Value}
-use Rattle.driver_steps.specs.Answers.{answer_listed, answer_of, answer_shown, answered_by}
-use Rattle.driver_steps.specs.Ends.{RunEnd, Moved, conducted, dropped, log_at, moved_on, on_asked, on_log, on_offered_by, on_report_by, on_told, opening_end}
-use Rattle.driver_core.specs.declared.publication_request.JoinRequest.{JoinRequest}
-use Rattle.driver_steps.proofs.HearingLemmas.{status_told, status_whole}
-use Rattle.driver_steps.specs.Hearing.{answer_asked, answer_heard, nak_move, status_move}
-use Rattle.driver_steps.specs.Idents.{begins_by, ident_of}
-use Rattle.driver_steps.specs.Moves.{WholeLog, Move, offer_move, offer_to, offer_under, poll_move, poll_under}
-use Rattle.driver_steps.specs.Receiving.{beat_move, receive_move, unheard}
-use Rattle.driver_steps.specs.Reporting.{answer_reported, report_move}
+use Rattle.log_steps.specs.Answers.{answer_listed, answer_of, answer_shown, answered_by}
+use Rattle.driver_steps.specs.Ends.{conducted, image_by, log_at, moved_by, moved_on, on_asked, on_log, on_offered, on_packet, on_report, on_told, opening_end, RunEnd}
+use Rattle.driver_core.specs.declared.asked.publication_request.JoinRequest.{JoinRequest}
+use Rattle.log_steps.proofs.HearingLemmas.{status_told, status_whole}
+use Rattle.log_steps.specs.Hearing.{answer_asked, answer_heard, nak_move, status_move}
+use Rattle.log_steps.specs.Idents.{begins_by, ident_of}
+use Rattle.log_steps.specs.Moves.{WholeLog, Move, offer_move, offer_to, offer_under, poll_move, poll_under}
+use Rattle.log_steps.specs.Receiving.{beat_move, receive_move, unheard}
+use Rattle.log_steps.specs.Reporting.{answer_reported, report_move}
 use Rattle.driver_steps.specs.Runs.{Reading, AreAnswers, IsAnswerTo, left_by, moved_to, read_by}
-use Rattle.driver_steps.specs.Seen.{image_seen, moved_seen, packet_seen}
-use Rattle.driver_steps.specs.Sending.{answer_sent, pace_of, send_by, send_move, standing_of}
+use Rattle.log_steps.specs.Sending.{answer_sent, pace_of, send_by, send_move, standing_of}
 use Rattle.driver_steps.proofs.EndLemmas.{after_both}
 use Rattle.driver_steps.proofs.LiveLemmas.{IsKept, event_keeps, found_log, log_keeps, step_either}
-use Rattle.driver_steps.proofs.ReadLemmas.{holds_by}
 use Rattle.frame_codec.specs.declared.fault.BadPacket.{BadPacket}
 use Rattle.frame_codec.specs.declared.header.TermPlace.{TermPlace}
 use Rattle.frame_codec.specs.declared.nak.Nak.{Nak}
@@ -59,9 +57,9 @@ use Rattle.frame_codec.specs.Datagram.{Content, frames, beat, nak, status, setup
 use Rattle.frame_codec.specs.Frame.{Sent}
 use Rattle.image_log.specs.Frame.{Frame as Kept}
 use Rattle.image_log.specs.declared.ident.Ident.{Ident as StreamIdent}
-use Rattle.image_receiver.specs.declared.receiver.Due.{Due}
-use Rattle.image_receiver.specs.Frames.{datagrams_of, nak_datagrams, nak_frame, status_datagrams, status_frame}
-use Rattle.image_receiver.specs.Receiver.{Receiving, due_of}
+use Rattle.log_traffic.specs.declared.receiver.Due.{Due}
+use Rattle.log_traffic.specs.Frames.{datagrams_of, nak_datagrams, nak_frame, status_datagrams, status_frame}
+use Rattle.log_traffic.specs.Receiver.{Receiving, due_of}
 use Rattle.two_drivers.specs.Line.{IsIn, kept_as, line_of, stream_of}
 use Rattle.two_drivers.specs.Sending.{IsDatagramOf, IsFit, IsOfLine, IsOfLog, IsSetupOf, IsWell, all_of}
 use Rattle.two_drivers.proofs.ReadingLemmas.{datagrams_read, nak_silent, resends_read, status_silent}
@@ -69,16 +67,16 @@ use Rattle.two_drivers.proofs.WellLemmas.{well_begins, well_cuts, well_hears, we
 use Rattle.policy_core.specs.declared.decision.Decision.{Decision}
 use Rattle.policy_core.specs.declared.verdict.Verdict.{Verdict}
 use Rattle.policy_core.specs.RuleList.{Rules}
-use Rattle.publication_sender.specs.declared.cutting.Pace.{Pace}
-use Rattle.publication_sender.specs.declared.hearing.StatusAnswer.{StatusAnswer}
-use Rattle.publication_sender.specs.declared.hearing.StatusAnswer.TheVariants as heard
-use Rattle.publication_sender.specs.Cutting.{cut_of, datagram_of}
-use Rattle.publication_sender.specs.Resending.{resent_of}
+use Rattle.log_traffic.specs.declared.cutting.Pace.{Pace}
+use Rattle.log_traffic.specs.declared.hearing.StatusAnswer.{StatusAnswer}
+use Rattle.log_traffic.specs.declared.hearing.StatusAnswer.TheVariants as heard
+use Rattle.log_traffic.specs.Cutting.{cut_of, datagram_of}
+use Rattle.log_traffic.specs.Resending.{resent_of}
 use Rattle.retransmit_gate.specs.declared.answer.Answer.{Answer as Word}
 use Rattle.retransmit_gate.specs.declared.answer.Answer.TheVariants as words
 use Rattle.stream_registry.specs.declared.row.Origin.{Origin}
 use Rattle.stream_registry.specs.declared.row.Origin.TheVariants.{Published, Remote}
-use Rattle.stream_registry.specs.declared.row.Source.{Source}
+use Rattle.stream_registry.specs.declared.row.LogRow.{LogRow}
 use Rattle.term_log.specs.declared.ident.Ident.{Ident}
 use Rattle.term_log.specs.Frames.{Frame, span, total}
 use Rattle.term_log.specs.Ident.{is_udp}
@@ -96,7 +94,7 @@ WellIf (rebuilt r) = Unit {0}
 abbrev pub WellLog : WholeLog → Type 0
 WellLog log = WellIf log.whole
 
-begins_well : (settings : Settings) (now : ℕ) (log : Source) (origin : Origin) → WellIf (begins_by settings now log origin)
+begins_well : (settings : Settings) (now : ℕ) (log : LogRow) (origin : Origin) → WellIf (begins_by settings now log origin)
 begins_well settings now log (Published exclusive since) = well_begins (ident_of settings log)
 begins_well settings now log (Remote address initial_term join) = tt
 
@@ -167,8 +165,8 @@ beaten_well : (now : ℕ) (place : TermPlace) (w : AnyWhole) → WellIf w → We
 beaten_well now place (whole w) well = well
 beaten_well now place (rebuilt r) well = tt
 
-heard_ident : (now : ℕ) (message : StatusMessage) (w : Whole) → (Rattle.publication_sender.specs.Hearing.heard_of now message w).ident ≡ w.ident
-unfolding Rattle.publication_sender.specs.Hearing.heard_of
+heard_ident : (now : ℕ) (message : StatusMessage) (w : Whole) → (Rattle.log_traffic.specs.Hearing.heard_of now message w).ident ≡ w.ident
+unfolding Rattle.log_traffic.specs.Hearing.heard_of
 heard_ident now message w = refl
 
 status_well : (now : ℕ) (message : StatusMessage) (w : AnyWhole) → WellIf w → WellIf (after_hearing now message w)
@@ -224,18 +222,18 @@ beats_well e now place (Ok source) well =
     log_keeps WellLog e source (beat_move now place) unheard (λ log found there. beaten_well now place log.whole there.holds) well
 
 packet_well : (s : State) (e : RunEnd) (now : ℕ) (local from : Address) (read : Result Content BadPacket) → All WellLog e.logs →
-    All WellLog (packet_seen s e now local from read).after.logs
+    All WellLog (on_packet s e now local from read).after.logs
 packet_well s e now local from (Err fault) well = well
 packet_well s e now local from (Ok (frames [])) well = well
 packet_well s e now local from (Ok (frames (frame ∷ later))) well =
-    frames_well e now (frame ∷ later) (image_seen s e local from frame.header.place) well
-packet_well s e now local from (Ok (beat header)) well = beats_well e now header.place (image_seen s e local from header.place) well
+    frames_well e now (frame ∷ later) (image_by s e local from frame.header.place) well
+packet_well s e now local from (Ok (beat header)) well = beats_well e now header.place (image_by s e local from header.place) well
 packet_well s e now local from (Ok (setup fields)) well = event_keeps WellLog e (SetUp now local from fields) well_kept well
 packet_well s e now local from (Ok (nak fields)) well = asked_well e now from fields (resending_of s from fields.session_id fields.stream_id) well
 packet_well s e now local from (Ok (status fields)) well = told_well e now from fields (joining_of s from fields.session_id fields.stream_id) well
 
 offer_well : (s : State) (e : RunEnd) (now client registration : ℕ) (message : List ℕ) (o : Option LogRequest) → All WellLog e.logs →
-    All WellLog (on_offered_by s e now client registration message o).after.logs
+    All WellLog (on_offered s e now client registration message o).after.logs
 unfolding offer_move
 offer_well s e now client registration message None well = well
 offer_well s e now client registration message (Some request) well =
@@ -243,13 +241,13 @@ offer_well s e now client registration message (Some request) well =
     (λ log found there. offer_under_well s now message log (offering_of s client registration) there.holds) well
 
 report_by_well : (s : State) (e : RunEnd) (now source : ℕ) (to : Option Address) → All WellLog e.logs →
-    All WellLog (on_report_by s e now source to).after.logs
+    All WellLog (on_report s e now source to).after.logs
 report_by_well s e now source None well = well
 report_by_well s e now source (Some to) well =
     log_keeps WellLog e source (report_move now s.settings.receiver_id to) IsGone
     (λ log found there. report_well now log.recovery.receiver log.whole there.holds) well
 
-moved_well : (s : State) (e : RunEnd) (step : Step) → All WellLog e.logs → All WellLog (moved_seen s e step).after.logs
+moved_well : (s : State) (e : RunEnd) (step : Step) → All WellLog e.logs → All WellLog (moved_by s e step).after.logs
 unfolding poll_move send_move
 moved_well s e (Conductor event) well = event_keeps WellLog e event well_kept well
 moved_well s e (Packet now local from bytes) well = packet_well s e now local from (packet_of bytes) well
@@ -269,7 +267,7 @@ moved_well s e (Value now client number) well = well
 pub step_well : (e : RunEnd) (reading : Reading) (answer : Answer) → All WellLog e.logs → All WellLog (left_by e reading answer).logs
 step_well e reading answer well =
     after_both (λ end. All WellLog end.logs) e (moved_to e reading) answer well
-    (holds_by (λ what. All WellLog what.after.logs) e reading.older reading.step (moved_well (read_by e reading.older) e reading.step well))
+    (moved_well (read_by e reading.older) e reading.step well)
 
 -- ---- what is read of what a log sends
 
@@ -494,13 +492,13 @@ told_sent i all e now from fields (Some request) well only =
     (heard_sent i all (status_answer fields log.whole)))
 
 packet_sent : (i : Ident) (all : List Frame) (s : State) (e : RunEnd) (now : ℕ) (local from : Address) (read : Result Content BadPacket) →
-    All WellLog e.logs → All (IsOverUdp i all) e.logs → IsAsked i all s e → AllGood i all (sent_by (packet_seen s e now local from read).answer)
+    All WellLog e.logs → All (IsOverUdp i all) e.logs → IsAsked i all s e → AllGood i all (sent_by (on_packet s e now local from read).answer)
 packet_sent i all s e now local from (Err fault) well only asked = none_sent i all
 packet_sent i all s e now local from (Ok (frames [])) well only asked = none_sent i all
 packet_sent i all s e now local from (Ok (frames (frame ∷ later))) well only asked =
-    image_sent i all e (receive_move now (frame ∷ later)) (image_seen s e local from frame.header.place) well only (λ log. none_sent i all)
+    image_sent i all e (receive_move now (frame ∷ later)) (image_by s e local from frame.header.place) well only (λ log. none_sent i all)
 packet_sent i all s e now local from (Ok (beat header)) well only asked =
-    image_sent i all e (beat_move now header.place) (image_seen s e local from header.place) well only (λ log. none_sent i all)
+    image_sent i all e (beat_move now header.place) (image_by s e local from header.place) well only (λ log. none_sent i all)
 packet_sent i all s e now local from (Ok (setup fields)) well only asked = conducted_sent i all e (SetUp now local from fields)
 packet_sent i all s e now local from (Ok (nak fields)) well only asked =
     asked_sent i all e now from fields (resending_of s from fields.session_id fields.stream_id) well only
@@ -525,7 +523,7 @@ offer_under_sent i all s now message log (Some request) =
     (λ _. offer_answer i all now s.settings.connection_timeout request.decision.verdict message log log.whole)
 
 offer_sent : (i : Ident) (all : List Frame) (s : State) (e : RunEnd) (now client registration : ℕ) (message : List ℕ) (o : Option LogRequest) →
-    All WellLog e.logs → All (IsOverUdp i all) e.logs → AllGood i all (sent_by (on_offered_by s e now client registration message o).answer)
+    All WellLog e.logs → All (IsOverUdp i all) e.logs → AllGood i all (sent_by (on_offered s e now client registration message o).answer)
 unfolding offer_move
 offer_sent i all s e now client registration message None well only = none_sent i all
 offer_sent i all s e now client registration message (Some request) well only =
@@ -546,7 +544,7 @@ send_by_sent i all s now log (Some lingers) well one =
     turn_sent i all (pace_of s.settings) now lingers (outlets_of s (standing_of s.settings now log) log.source) log.whole one.only one.fit well
 
 report_by_sent : (i : Ident) (all : List Frame) (s : State) (e : RunEnd) (now source : ℕ) (to : Option Address) → All WellLog e.logs →
-    All (IsOverUdp i all) e.logs → AllGood i all (sent_by (on_report_by s e now source to).answer)
+    All (IsOverUdp i all) e.logs → AllGood i all (sent_by (on_report s e now source to).answer)
 report_by_sent i all s e now source None well only = none_sent i all
 report_by_sent i all s e now source (Some to) well only =
     log_sent i all e source (report_move now s.settings.receiver_id to) IsGone (none_sent i all) well only
@@ -563,7 +561,7 @@ shown_sent i all shown.UnknownCounter = none_sent i all
 shown_sent i all shown.WrongClient = none_sent i all
 
 moved_sent : (i : Ident) (all : List Frame) (s : State) (e : RunEnd) (step : Step) → All WellLog e.logs → All (IsOverUdp i all) e.logs → IsAsked i all s e →
-    AllGood i all (sent_by (moved_seen s e step).answer)
+    AllGood i all (sent_by (moved_by s e step).answer)
 unfolding poll_move send_move
 moved_sent i all s e (Conductor event) well only asked = conducted_sent i all e event
 moved_sent i all s e (Packet now local from bytes) well only asked = packet_sent i all s e now local from (packet_of bytes) well only asked
@@ -583,8 +581,7 @@ pub step_sends : (i : Ident) (all : List Frame) (e : RunEnd) (reading : Reading)
     All (IsOverUdp i all) e.logs → IsAsked i all (read_by e reading.older) e → AllGood i all (sent_by answer)
 step_sends i all e reading answer is well only asked =
     step_either (λ told end. AllGood i all (sent_by told)) e (moved_to e reading) answer is (none_sent i all)
-    (holds_by (λ what. AllGood i all (sent_by what.answer)) e reading.older reading.step
-    (moved_sent i all (read_by e reading.older) e reading.step well only asked))
+    (moved_sent i all (read_by e reading.older) e reading.step well only asked)
 
 -- whatever the registry, where no log but the publication's has its session and stream
 pub step_sent : (i : Ident) (all : List Frame) (e : RunEnd) (reading : Reading) (answer : Answer) → IsAnswerTo e reading answer → All WellLog e.logs →

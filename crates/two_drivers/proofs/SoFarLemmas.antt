@@ -1,7 +1,7 @@
 -- What the first sent by then, as answers come.
 use Rattle.std.proofs.Common.{◌≡◌, List, [], ◌∷◌, ◌++◌, length, sym, ap, ◌∙◌, append_assoc}
 use Rattle.std.proofs.lemmas.List.{append-nil}
-use Rattle.driver_steps.specs.declared.answer.Answer.{Answer}
+use Rattle.log_steps.specs.declared.answer.Answer.{Answer}
 use Rattle.two_drivers.specs.Sent.{Datagram}
 use Rattle.two_drivers.specs.Worlds.{sent_of, sent_of_all}
 use Rattle.two_drivers.specs.declared.pair_step.PairStep.{PairStep}

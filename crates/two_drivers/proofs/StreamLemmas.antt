@@ -5,27 +5,27 @@ use Rattle.std.specs.Prelude.{nat_le}
 use Rattle.std.specs.Int.{is_power_of_two}
 use Rattle.std.proofs.lemmas.Bool.{cond_both}
 use Rattle.std.proofs.lemmas.List.Elements.{All-nil, All-cons, All-head, All-map, All-tail, All-weaker, All-contains_itself}
-use Rattle.any_log.specs.Held.{Made, for_publication, for_stream}
-use Rattle.any_log.specs.Whole.{AnyWhole, whole, rebuilt, made_for as made_any}
+use Rattle.log_traffic.specs.Held.{Made, for_publication, for_stream}
+use Rattle.log_traffic.specs.Whole.{AnyWhole, whole, rebuilt, made_for as made_any}
 use Rattle.channel_uri.specs.declared.address.Address.{Address}
-use Rattle.driver_core.specs.declared.event.Event.{Event}
-use Rattle.driver_core.specs.declared.event.Inputs.{Inputs}
-use Rattle.driver_core.specs.declared.peer.Peer.{Peer}
-use Rattle.driver_core.specs.declared.settings.Settings.{Settings}
+use Rattle.driver_core.specs.declared.state.event.Event.{Event}
+use Rattle.driver_core.specs.declared.state.event.Inputs.{Inputs}
+use Rattle.driver_core.specs.declared.state.peer.Peer.{Peer}
+use Rattle.driver_core.specs.declared.state.settings.Settings.{Settings}
 use Rattle.driver_core.specs.Conduct.{coming_to, state_after, state_of}
 use Rattle.driver_core.specs.State.{State, opened, ruled}
 use Rattle.driver_core.proofs.ListLemmas.{contains_none}
 use Rattle.driver_laws.specs.PublishingLaws.{IsImageMadeBy, IsLogMadeBy, WasLive}
 use Rattle.driver_laws.proofs.PublishingOnlyLemmas.{published_only}
-use Rattle.driver_steps.specs.declared.answer.Answer.{Answer}
+use Rattle.log_steps.specs.declared.answer.Answer.{Answer}
 use Rattle.driver_steps.specs.declared.step.Step.{Step}
 use Rattle.driver_steps.specs.declared.step.Step.TheVariants.{Conductor, Packet, Offer as Offers, Poll as Polls, Image, List as Lists, Send, Value}
 use Rattle.driver_steps.specs.Ends.{RunEnd, opening_end}
-use Rattle.driver_steps.specs.Idents.{made_of}
+use Rattle.log_steps.specs.Idents.{made_of}
 use Rattle.driver_steps.specs.Laws.{event_in, event_of, made_as, made_for}
-use Rattle.driver_steps.specs.Moves.{WholeLog}
-use Rattle.driver_steps.specs.Runs.{Reading, end_of, left_by, moved_to}
-use Rattle.driver_steps.proofs.EndLemmas.{after_both, reading_takes}
+use Rattle.log_steps.specs.Moves.{WholeLog}
+use Rattle.driver_steps.specs.Runs.{Reading, end_of, left_by, moved_to, read_by}
+use Rattle.driver_steps.proofs.EndLemmas.{after_both, moved_takes}
 use Rattle.driver_steps.proofs.FollowLemmas.{Follows, ends_follow}
 use Rattle.driver_steps.proofs.MatchLemmas.{made_as_log}
 use Rattle.frame_codec.specs.declared.fault.BadPacket.{BadPacket}
@@ -38,7 +38,7 @@ use Rattle.image_log.specs.Frame.{Frame as Kept}
 use Rattle.image_log.specs.declared.ident.Ident.{Ident as StreamIdent}
 use Rattle.two_drivers.specs.Line.{stream_of}
 use Rattle.policy_core.specs.RuleList.{Rules}
-use Rattle.stream_registry.specs.declared.row.Source.{Source}
+use Rattle.stream_registry.specs.declared.row.LogRow.{LogRow}
 use Rattle.term_log.specs.declared.ident.Ident.{Ident}
 use Rattle.two_drivers.specs.Streams.{ImagesAreOfTheStream, IsNamed}
 use Rattle.two_drivers.specs.Given.{AreGood, IsGood, IsGoodEvent, IsGoodSetup, IsGoodStep}
@@ -51,7 +51,7 @@ IsNamedMade i (for_stream ident) = ident.session_id ≡ i.session → ident.stre
 
 -- of each row
 abbrev AreNamed : Ident → State → Type 0
-AreNamed i s = (settings : Settings) (row : Source) → Contains s.streams.sources row → IsNamedMade i (made_of settings row)
+AreNamed i s = (settings : Settings) (row : LogRow) → Contains s.streams.sources row → IsNamedMade i (made_of settings row)
 
 -- ---- a SETUP
 
@@ -100,20 +100,20 @@ stream_is : (i : Ident) (ident : StreamIdent) → ident.session_id ≡ i.session
     ident.initial_term_id ≡ i.initial_term → ident.term_length ≡ i.term_length → ident ≡ stream_of i
 stream_is i ident session stream initial size = rw (← session, ← stream, ← initial, ← size) refl
 
-live_named : (i : Ident) (s : State) (settings : Settings) (row : Source) → AreNamed i s → WasLive s.streams row → IsNamedMade i (made_of settings row)
+live_named : (i : Ident) (s : State) (settings : Settings) (row : LogRow) → AreNamed i s → WasLive s.streams row → IsNamedMade i (made_of settings row)
 live_named i s settings row named live =
     let same : made_of settings live.before ≡ made_of settings row =
     sym (made_as_log settings live.before) ∙ ap (made_of settings) (sym live.same) ∙ made_as_log settings row in
     subst (IsNamedMade i) same (named settings live.before live.stood)
 
-log_named : (i : Ident) (s : State) (event : Event) (settings : Settings) (row : Source) → IsLogMadeBy s event row → IsNamedMade i (made_of settings row)
-log_named i s event settings row made = subst (λ (r : Source). IsNamedMade i (made_of settings r)) (sym made.made_is) tt
+log_named : (i : Ident) (s : State) (event : Event) (settings : Settings) (row : LogRow) → IsLogMadeBy s event row → IsNamedMade i (made_of settings row)
+log_named i s event settings row made = subst (λ (r : LogRow). IsNamedMade i (made_of settings r)) (sym made.made_is) tt
 
-image_named : (i : Ident) (s : State) (event : Event) (settings : Settings) (row : Source) → IsGoodEvent i event → IsImageMadeBy s event row →
+image_named : (i : Ident) (s : State) (event : Event) (settings : Settings) (row : LogRow) → IsGoodEvent i event → IsImageMadeBy s event row →
     IsNamedMade i (made_of settings row)
 image_named i s event settings row good made =
     let fine : IsGoodSetup i made.setup = subst (IsGoodEvent i) made.event_is good in
-    subst (λ (r : Source). IsNamedMade i (made_of settings r)) (sym made.log_is)
+    subst (λ (r : LogRow). IsNamedMade i (made_of settings r)) (sym made.log_is)
     (λ session stream.
     (let of = fine session stream in
     stream_is i _ session stream of.initial_term (join_size made.setup made.join i.term_length made.join_is of.term_length)))
@@ -162,7 +162,7 @@ left_named : (i : Ident) (line : List Kept) (e : RunEnd) (reading : Reading) (an
     AreNamed i e.registry → AreNamed i (left_by e reading answer).registry
 left_named i line e reading answer good named =
     after_both (λ end. AreNamed i end.registry) e (moved_to e reading) answer named
-    (subst (AreNamed i) (sym (reading_takes e reading.older reading.step))
+    (subst (AreNamed i) (sym (moved_takes (read_by e reading.older) e reading.step))
     (events_named i e.registry (event_of e reading.step) (step_good i line e reading.step good) named))
 
 run_named : (i : Ident) (line : List Kept) (e : RunEnd) (readings : List Reading) (answers : List Answer) → AreGood i line readings →

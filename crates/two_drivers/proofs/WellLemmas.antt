@@ -8,11 +8,11 @@ use Rattle.frame_codec.specs.Flags.{asks_for_setup}
 use Rattle.frame_codec.specs.Frame.{padded}
 use Rattle.frame_codec.specs.declared.status_message.StatusMessage.{StatusMessage}
 use Rattle.image_log.proofs.Tests.{is_ge, is_le, is_lt, le_no, le_or}
-use Rattle.publication_sender.specs.declared.cutting.DatagramKind.{DatagramKind}
-use Rattle.publication_sender.specs.declared.cutting.DatagramKind.TheVariants as kinds
-use Rattle.publication_sender.specs.declared.cutting.Pace.{Pace}
-use Rattle.publication_sender.specs.Cutting.{after_due, cut_of, due_of}
-use Rattle.publication_sender.specs.Hearing.{heard_of, sending_after}
+use Rattle.log_traffic.specs.declared.cutting.DatagramKind.{DatagramKind}
+use Rattle.log_traffic.specs.declared.cutting.DatagramKind.TheVariants as kinds
+use Rattle.log_traffic.specs.declared.cutting.Pace.{Pace}
+use Rattle.log_traffic.specs.Cutting.{after_due, cut_of, due_of}
+use Rattle.log_traffic.specs.Hearing.{heard_of, sending_after}
 use Rattle.term_log.specs.declared.ident.Ident.{Ident}
 use Rattle.term_log.specs.declared.offer.Offer.{Offer}
 use Rattle.term_log.specs.Cut.{cut, last_part, part_of}

@@ -6,12 +6,12 @@ use Rattle.std.proofs.lemmas.List.Elements.{All-nil}
 use Rattle.channel_uri.specs.declared.address.Address.{Address}
 use Rattle.driver_core.specs.Soundness.{AreSettings}
 use Rattle.driver_core.specs.State.{State}
-use Rattle.driver_steps.specs.declared.answer.Answer.{Answer}
-use Rattle.driver_steps.specs.declared.answer.Answer.TheVariants.{BadStep, NoMemory}
+use Rattle.log_steps.specs.declared.answer.Answer.{Answer}
+use Rattle.log_steps.specs.declared.answer.Answer.TheVariants.{BadStep, NoMemory}
 use Rattle.driver_steps.specs.declared.step.Step.{Step}
 use Rattle.driver_steps.specs.declared.step.Step.TheVariants.{Conductor as Conducts, Packet, Offer as Offers, Poll as Polls, Image, List as Lists, Send, Value}
-use Rattle.driver_steps.specs.Ends.{RunEnd as DriverEnd, IsAnswerOf as IsDriverAnswer, after_by as driver_after}
-use Rattle.driver_steps.specs.Runs.{Reading as DriverReading, IsAnswerTo, left_by, moved_by}
+use Rattle.driver_steps.specs.Ends.{RunEnd as DriverEnd, IsAnswerOf as IsDriverAnswer, after_by as driver_after, moved_by}
+use Rattle.driver_steps.specs.Runs.{Reading as DriverReading, IsAnswerTo, left_by, read_by}
 use Rattle.driver_world.specs.declared.actor.Actor.{Actor}
 use Rattle.driver_world.specs.declared.actor.Actor.TheVariants.{Client, Conductor, Receiver, Sender}
 use Rattle.driver_world.specs.declared.reading.Reading.{Reading}
@@ -60,8 +60,8 @@ pub data Went (e : RunEnd) (reading : Reading) (answer : Answer) : Type 0 where
 -- what is moved is nothing, or what the driver moves
 data OfDriver (e : RunEnd) (step : Step) (what : Moved) : Type 0 where
   nothing : what ≡ bad e → OfDriver e step what
-  moves : (r : DriverReading) → IsLike step r.step → IsSeen e.past r.older → what.answer ≡ (moved_by e.driver r.older r.step).answer →
-      what.after.driver ≡ (moved_by e.driver r.older r.step).after → OfDriver e step what
+  moves : (r : DriverReading) → IsLike step r.step → IsSeen e.past r.older → what.answer ≡ (moved_by (read_by e.driver r.older) e.driver r.step).answer →
+      what.after.driver ≡ (moved_by (read_by e.driver r.older) e.driver r.step).after → OfDriver e step what
 
 of_cond : (e : RunEnd) (step : Step) (b : Bool) (what : Moved) → OfDriver e step what → OfDriver e step (cond b (bad e) what)
 of_cond e step true what of = nothing refl
@@ -96,16 +96,16 @@ went_nowhere e answer is =
     ))
     answer is
 
-went_on : (e : RunEnd) (what : Moved) (r : DriverReading) (answer : Answer) → what.answer ≡ (moved_by e.driver r.older r.step).answer →
-    what.after.driver ≡ (moved_by e.driver r.older r.step).after → IsAnswerOf what answer →
+went_on : (e : RunEnd) (what : Moved) (r : DriverReading) (answer : Answer) → what.answer ≡ (moved_by (read_by e.driver r.older) e.driver r.step).answer →
+    what.after.driver ≡ (moved_by (read_by e.driver r.older) e.driver r.step).after → IsAnswerOf what answer →
     IsAnswerTo e.driver r answer × ((after_by e what answer).driver ≡ left_by e.driver r answer)
 went_on e what r answer told leaves is =
-    by_answer (λ a. IsAnswerOf what a → IsDriverAnswer (moved_by e.driver r.older r.step) a
-    × ((after_by e what a).driver ≡ driver_after e.driver (moved_by e.driver r.older r.step) a))
+    by_answer (λ a. IsAnswerOf what a → IsDriverAnswer (moved_by (read_by e.driver r.older) e.driver r.step) a
+    × ((after_by e what a).driver ≡ driver_after e.driver (moved_by (read_by e.driver r.older) e.driver r.step) a))
     (λ is'. (tt, refl))
     (λ one other is'. (
-      other.for_driver (moved_by e.driver r.older r.step) (other.worlds what is' ∙ told),
-      ap (λ (end : RunEnd). end.driver) (other.left e what) ∙ leaves ∙ sym (other.driver_left e.driver (moved_by e.driver r.older r.step)),
+      other.for_driver (moved_by (read_by e.driver r.older) e.driver r.step) (other.worlds what is' ∙ told),
+      ap (λ (end : RunEnd). end.driver) (other.left e what) ∙ leaves ∙ sym (other.driver_left e.driver (moved_by (read_by e.driver r.older) e.driver r.step)),
     ))
     answer is
 

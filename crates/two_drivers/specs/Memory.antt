@@ -1,7 +1,7 @@
 -- Which steps of two worlds may take memory: those that may in the world which takes them. A step that neither takes takes none.
 -- Own rules.
 use Rattle.std.specs.Prelude.{List, [], ◌∷◌, Option, Some, None}
-use Rattle.driver_steps.specs.declared.answer.Answer.{Answer}
+use Rattle.log_steps.specs.declared.answer.Answer.{Answer}
 use Rattle.driver_world.specs.declared.reading.Reading.{Reading}
 use Rattle.driver_world.specs.Memory.{HasMemory}
 use Rattle.two_drivers.specs.declared.pair_step.PairStep.{PairStep}

@@ -1,17 +1,17 @@
 -- All frames of a publication, which are those that its log had when it was last there; and the promise, of two worlds. Own
 -- rules.
 use Rattle.std.specs.Prelude.{◌≡◌, ℕ, true, List, [], ◌∷◌, ◌++◌, length, All, Option, Some, None}
-use Rattle.any_log.specs.Whole.{AnyWhole, whole, rebuilt}
+use Rattle.log_traffic.specs.Whole.{AnyWhole, whole, rebuilt}
 use Rattle.driver_core.specs.LogRequests.{has_pair}
 use Rattle.driver_core.specs.Renewal.{source_at}
 use Rattle.driver_core.specs.Soundness.{AreSettings}
 use Rattle.driver_laws.specs.WidthLaws.{AreSettingsOf32Bits}
-use Rattle.driver_steps.specs.declared.answer.Answer.{Answer}
+use Rattle.log_steps.specs.declared.answer.Answer.{Answer}
 use Rattle.driver_steps.specs.Ends.{RunEnd, log_at}
-use Rattle.driver_steps.specs.Moves.{WholeLog}
+use Rattle.log_steps.specs.Moves.{WholeLog}
 use Rattle.two_drivers.specs.Line.{IsRunOf}
 use Rattle.stream_registry.specs.Origins.{is_remote}
-use Rattle.stream_registry.specs.declared.row.Source.{Source}
+use Rattle.stream_registry.specs.declared.row.LogRow.{LogRow}
 use Rattle.term_log.specs.declared.ident.Ident.{Ident}
 use Rattle.term_log.specs.Ident.{is_udp}
 use Rattle.term_log.specs.Whole.{Whole}
@@ -69,7 +69,7 @@ firsts_in e before earlier steps answers =
 
 -- the registry has the pair, and the log of its source is an image of the publication's session and stream
 pub record IsPair (i : Ident) (source subscription : ℕ) (e : RunEnd) : Type 0 where
-  pub row : Source
+  pub row : LogRow
   pub live : source_at e.registry.streams.sources source ≡ Some row
   pub image : is_remote row ≡ true
   pub session : row.session ≡ i.session

@@ -12,10 +12,10 @@ use Rattle.frame_codec.specs.StatusMessage.{status_bytes}
 use Rattle.image_log.specs.Frame.{Frame as Kept, framed}
 use Rattle.image_log.specs.Handed.{position_in, span_of}
 use Rattle.image_log.specs.declared.ident.Ident.{Ident as StreamIdent}
-use Rattle.publication_sender.specs.declared.cutting.Pace.{Pace}
-use Rattle.publication_sender.specs.Cutting.{cut_of, datagram_of}
-use Rattle.publication_sender.specs.Hearing.{heard_of}
-use Rattle.publication_sender.specs.Resending.{resent_of}
+use Rattle.log_traffic.specs.declared.cutting.Pace.{Pace}
+use Rattle.log_traffic.specs.Cutting.{cut_of, datagram_of}
+use Rattle.log_traffic.specs.Hearing.{heard_of}
+use Rattle.log_traffic.specs.Resending.{resent_of}
 use Rattle.term_log.specs.declared.ident.Ident.{Ident}
 use Rattle.term_log.specs.Frames.{IsRun}
 use Rattle.term_log.specs.Ident.{IsIdent, greatest_position}

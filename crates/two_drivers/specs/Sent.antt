@@ -1,14 +1,14 @@
 -- What a driver sends, and what is read of it. Own rules.
 use Rattle.std.specs.Prelude.{◌≡◌, ℕ, List, [], ◌∷◌, ◌++◌, map, All, if◌then◌else◌}
-use Rattle.any_log.specs.Whole.{AnyWhole, whole, rebuilt}
+use Rattle.log_traffic.specs.Whole.{AnyWhole, whole, rebuilt}
 use Rattle.channel_uri.specs.declared.address.Address.{Address}
-use Rattle.driver_core.specs.declared.peer.Peer.{Peer}
-use Rattle.driver_core.specs.declared.send_request.Outlet.{Outlet}
-use Rattle.driver_core.specs.declared.settings.Settings.{Settings}
-use Rattle.driver_steps.specs.declared.answer.Answer.{Answer}
-use Rattle.driver_steps.specs.declared.answer.Answer.TheVariants.{Reported, Resent, Sent}
+use Rattle.driver_core.specs.declared.state.peer.Peer.{Peer}
+use Rattle.driver_core.specs.declared.asked.send_request.Outlet.{Outlet}
+use Rattle.driver_core.specs.declared.state.settings.Settings.{Settings}
+use Rattle.log_steps.specs.declared.answer.Answer.{Answer}
+use Rattle.log_steps.specs.declared.answer.Answer.TheVariants.{Reported, Resent, Sent}
 use Rattle.driver_steps.specs.Ends.{RunEnd, opening_end}
-use Rattle.driver_steps.specs.Moves.{WholeLog}
+use Rattle.log_steps.specs.Moves.{WholeLog}
 use Rattle.driver_steps.specs.Runs.{Reading, AreAnswers, left_by}
 use Rattle.two_drivers.specs.Line.{line_of}
 use Rattle.two_drivers.specs.Sending.{IsFit}

@@ -1,7 +1,7 @@
 -- Two worlds are held, and all datagrams that the first sent: which ends they stand for, and what a step and a run leave. Own
 -- rules.
 use Rattle.std.specs.Prelude.{◌≡◌, List, Option, Some, None, if◌then◌else◌}
-use Rattle.driver_steps.specs.declared.answer.Answer.{Answer}
+use Rattle.log_steps.specs.declared.answer.Answer.{Answer}
 use Rattle.driver_world.specs.declared.reading.Reading.{Reading}
 use Rattle.driver_world.specs.Standing.{Held, StandsForEnd}
 use Rattle.two_drivers.specs.Drivers.{is_quiet, numbered}

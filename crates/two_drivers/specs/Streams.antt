@@ -1,12 +1,12 @@
 -- An image of a publication's session and stream gets the publication's numbers from its SETUP. Own rules.
 use Rattle.std.specs.Prelude.{◌≡◌, ℕ, ◌<◌, List, [], ◌∷◌, All, Some}
-use Rattle.any_log.specs.Whole.{AnyWhole, whole, rebuilt}
-use Rattle.driver_core.specs.declared.peer.Peer.{Peer}
-use Rattle.driver_core.specs.declared.settings.Settings.{Settings}
+use Rattle.log_traffic.specs.Whole.{AnyWhole, whole, rebuilt}
+use Rattle.driver_core.specs.declared.state.peer.Peer.{Peer}
+use Rattle.driver_core.specs.declared.state.settings.Settings.{Settings}
 use Rattle.driver_core.specs.Soundness.{AreSettings}
-use Rattle.driver_steps.specs.declared.answer.Answer.{Answer}
+use Rattle.log_steps.specs.declared.answer.Answer.{Answer}
 use Rattle.driver_steps.specs.Ends.{RunEnd, log_at, opening_end}
-use Rattle.driver_steps.specs.Moves.{WholeLog}
+use Rattle.log_steps.specs.Moves.{WholeLog}
 use Rattle.driver_steps.specs.Runs.{Reading, AreAnswers, end_of}
 use Rattle.image_log.specs.Frame.{Frame as Kept}
 use Rattle.image_log.specs.Rebuilt.{Rebuilt}

@@ -1,11 +1,11 @@
 use Rattle.std.proofs.Common.{rules, ◌≡◌, Some, ap}
 use Rattle.std.specs.Option.{option_map}
 use Rattle.driver_core.specs.LogRequests.{offering_of}
-use Rattle.driver_steps.specs.declared.answer.Answer.TheVariants.{Offered as OfferedAs}
-use Rattle.driver_steps.specs.declared.answer.Offered.TheVariants.{Closed}
-use Rattle.driver_steps.specs.Moves.{offer_move}
-use Rattle.driver_steps.proofs.DecidedLemmas.{offer_decided_first}
-use Rattle.driver_steps.proofs.SeenLemmas.{logs_kept, logs_served, offer_is_told, offered_goes}
+use Rattle.log_steps.specs.declared.answer.Answer.TheVariants.{Offered as OfferedAs}
+use Rattle.log_steps.specs.declared.answer.Offered.TheVariants.{Closed}
+use Rattle.log_steps.specs.Moves.{offer_move}
+use Rattle.driver_steps.proofs.EndDecisionLemmas.{offer_decided_first}
+use Rattle.driver_steps.proofs.ServingLemmas.{logs_kept, logs_served, offer_is_told, offered_goes}
 use Rattle.driver_steps.proofs.by_view.offer_by.Goals as goal
 
 pub returns-in-Some-clause-serves : goal.returns-in-Some-clause-serves

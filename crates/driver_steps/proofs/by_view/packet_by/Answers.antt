@@ -1,8 +1,8 @@
 use Rattle.std.proofs.Common.{refl}
-use Rattle.driver_steps.specs.Packets.{content_move}
-use Rattle.driver_steps.specs.Receiving.{unheard}
+use Rattle.log_steps.specs.Packets.{content_move}
+use Rattle.log_steps.specs.Receiving.{unheard}
 use Rattle.driver_steps.proofs.RequestLemmas.{content_told, first_decides}
-use Rattle.driver_steps.proofs.SeenLemmas.{logs_kept, logs_refused, logs_served}
+use Rattle.driver_steps.proofs.ServingLemmas.{logs_kept, logs_refused, logs_served}
 use Rattle.driver_steps.proofs.by_view.packet_by.Goals as goal
 use Rattle.frame_codec.specs.Datagram.{content}
 

@@ -1,7 +1,7 @@
-use Rattle.driver_steps.specs.declared.answer.Answer.TheVariants.{Gone}
-use Rattle.driver_steps.specs.Moves.{poll_move}
-use Rattle.driver_steps.proofs.DecidedLemmas.{poll_decided_first}
-use Rattle.driver_steps.proofs.SeenLemmas.{logs_kept, logs_refused, logs_served, poll_is_told}
+use Rattle.log_steps.specs.declared.answer.Answer.TheVariants.{Gone}
+use Rattle.log_steps.specs.Moves.{poll_move}
+use Rattle.driver_steps.proofs.EndDecisionLemmas.{poll_decided_first}
+use Rattle.driver_steps.proofs.ServingLemmas.{logs_kept, logs_refused, logs_served, poll_is_told}
 use Rattle.std.proofs.Common.{refl}
 use Rattle.driver_steps.proofs.by_view.poll_by.Goals as goal
 

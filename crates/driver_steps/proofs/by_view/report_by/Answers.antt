@@ -1,8 +1,8 @@
 use Rattle.std.proofs.Common.{refl}
-use Rattle.driver_steps.specs.declared.answer.Answer.TheVariants.{Gone}
+use Rattle.log_steps.specs.declared.answer.Answer.TheVariants.{Gone}
 use Rattle.driver_core.specs.PublicationRequests.{publisher_of}
-use Rattle.driver_steps.specs.Reporting.{image_move}
-use Rattle.driver_steps.proofs.SeenLemmas.{logs_kept, logs_refused, logs_served}
+use Rattle.log_steps.specs.Reporting.{image_move}
+use Rattle.driver_steps.proofs.ServingLemmas.{logs_kept, logs_refused, logs_served}
 use Rattle.driver_steps.proofs.RunLemmas.{image_told}
 use Rattle.driver_steps.proofs.by_view.report_by.Goals as goal
 

@@ -1,8 +1,8 @@
 use Rattle.std.proofs.Common.{refl}
-use Rattle.driver_steps.specs.declared.answer.Answer.TheVariants.{Gone}
-use Rattle.driver_steps.specs.Sending.{send_move}
-use Rattle.driver_steps.proofs.SeenLemmas.{logs_kept, logs_refused, logs_served}
-use Rattle.driver_steps.proofs.SendLemmas.{move_told}
+use Rattle.log_steps.specs.declared.answer.Answer.TheVariants.{Gone}
+use Rattle.log_steps.specs.Sending.{send_move}
+use Rattle.driver_steps.proofs.ServingLemmas.{logs_kept, logs_refused, logs_served}
+use Rattle.driver_steps.proofs.SendAnswerLemmas.{move_told}
 use Rattle.driver_steps.proofs.by_view.send_by.Goals as goal
 
 pub returns-in-Ok-clause-serves : goal.returns-in-Ok-clause-serves

@@ -1,5 +1,5 @@
 use Rattle.std.proofs.Common.{◌≡◌, ◌++◌, drop, map}
-use Rattle.driver_steps.specs.Held.{end_held}
+use Rattle.driver_steps.specs.OpenLogs.{end_held}
 use Rattle.driver_steps.proofs.inputs.ends_of.Given as goal
 
 -- the ends so far, and then those of the logs that are left

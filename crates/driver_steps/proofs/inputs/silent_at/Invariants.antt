@@ -1,5 +1,5 @@
 use Rattle.std.proofs.Common.{◌≡◌, ◌++◌, drop, filter, map}
-use Rattle.driver_steps.specs.Held.{is_silent_at}
+use Rattle.driver_steps.specs.OpenLogs.{is_silent_at}
 use Rattle.driver_steps.proofs.inputs.silent_at.Given as goal
 
 -- the silent ones so far, and then those of the logs that are left

@@ -1,5 +1,5 @@
 use Rattle.std.proofs.Common.{◌≡◌, ◌≤◌, ◌-◌, ◌++◌, take, drop, length, filter}
-use Rattle.driver_steps.specs.Held.{is_kept}
+use Rattle.driver_steps.specs.OpenLogs.{is_kept}
 use Rattle.driver_steps.proofs.open_logs.OpenLogs.close.Given as goal
 
 -- the logs passed stay, and then those of the others that do

@@ -1,5 +1,5 @@
 use Rattle.std.proofs.Common.{◌<◌, length, sym, subst}
-use Rattle.driver_steps.specs.Held.{HeldLogs}
+use Rattle.driver_steps.specs.OpenLogs.{HeldLogs}
 use Rattle.driver_steps.proofs.HousedLemmas.{housed_given, lease_is_of}
 use Rattle.driver_steps.proofs.open_logs.OpenLogs.close_at.Goals as goal
 

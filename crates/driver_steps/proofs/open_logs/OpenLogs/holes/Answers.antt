@@ -1,6 +1,6 @@
 use Rattle.std.proofs.Common.{ap, ◌∙◌}
-use Rattle.driver_steps.specs.Held.{HeldLogs, plots_of}
-use Rattle.driver_steps.specs.Plots.{taken_pages}
+use Rattle.driver_steps.specs.OpenLogs.{HeldLogs, plots_of}
+use Rattle.log_steps.specs.Plots.{taken_pages}
 use Rattle.driver_steps.proofs.HoleLemmas.{leased_taken}
 use Rattle.log_arena.specs.Pages.{holes_of}
 use Rattle.driver_steps.proofs.open_logs.OpenLogs.holes.Goals as goal

@@ -2,13 +2,15 @@ use Rattle.std.proofs.Common.{◌≡◌, ◌<◌, List, length, Some, None, sym,
 use Rattle.std.specs.Vec.{vec_capacity}
 use Rattle.std.specs.Prelude.{slice_set}
 use Rattle.std.proofs.lemmas.List.{get_or_default, set-get_or}
-use Rattle.driver_steps.specs.declared.answer.Answer.TheVariants.{Gone}
-use Rattle.driver_steps.specs.Held.{HeldLog, HeldLogs, LiesAsBefore, place_at}
-use Rattle.driver_steps.specs.Memory.{Gives, GivesFirst}
-use Rattle.driver_steps.specs.Moves.{Does, MovesFirst, for_source}
-use Rattle.driver_steps.specs.Reporting.{image_move}
-use Rattle.driver_steps.proofs.HeldLemmas.{err_each, found_at, moves_none, ok_each}
-use Rattle.driver_steps.proofs.GateLemmas.{gives_for, moves_for}
+use Rattle.log_steps.specs.declared.answer.Answer.TheVariants.{Gone}
+use Rattle.log_steps.specs.Held.{HeldLog, LiesAsBefore}
+use Rattle.driver_steps.specs.OpenLogs.{HeldLogs, place_at, GivesFirst, MovesFirst}
+use Rattle.log_steps.specs.Memory.{Gives}
+use Rattle.log_steps.specs.Moves.{Does, for_source}
+use Rattle.log_steps.specs.Reporting.{image_move}
+use Rattle.log_steps.proofs.ResultLemmas.{err_each, ok_each}
+use Rattle.driver_steps.proofs.OpenLogLemmas.{found_at, moves_none}
+use Rattle.driver_steps.proofs.FirstLemmas.{gives_for, moves_for}
 use Rattle.driver_steps.proofs.HousedLemmas.{housed_set}
 use Rattle.driver_steps.proofs.open_logs.OpenLogs.image.Goals as goal
 

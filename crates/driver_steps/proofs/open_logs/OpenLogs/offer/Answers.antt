@@ -2,13 +2,14 @@ use Rattle.std.proofs.Common.{◌≡◌, ◌<◌, List, length, Some, None, sym,
 use Rattle.std.specs.Vec.{vec_capacity}
 use Rattle.std.proofs.lemmas.List.{get_or_default}
 use Rattle.std.specs.Prelude.{slice_set}
-use Rattle.driver_steps.specs.declared.answer.Answer.TheVariants.{Offered as OfferedAs}
-use Rattle.driver_steps.specs.declared.answer.Offered.TheVariants.{Closed}
-use Rattle.driver_steps.specs.Held.{HeldLog, HeldLogs, LiesAsBefore, place_at}
-use Rattle.driver_steps.specs.Moves.{MovesFirst, offer_move}
-use Rattle.driver_steps.proofs.HeldLemmas.{found_at, moves_at, moves_none}
-use Rattle.driver_steps.specs.Decided.{DecidesFirst, offer_decision}
-use Rattle.driver_steps.proofs.DecidedLemmas.{decides_at, decides_none}
+use Rattle.log_steps.specs.declared.answer.Answer.TheVariants.{Offered as OfferedAs}
+use Rattle.log_steps.specs.declared.answer.Offered.TheVariants.{Closed}
+use Rattle.log_steps.specs.Held.{HeldLog, LiesAsBefore}
+use Rattle.driver_steps.specs.OpenLogs.{HeldLogs, place_at, MovesFirst, DecidesFirst}
+use Rattle.log_steps.specs.Moves.{offer_move}
+use Rattle.driver_steps.proofs.OpenLogLemmas.{found_at, moves_at, moves_none}
+use Rattle.log_steps.specs.Decided.{offer_decision}
+use Rattle.driver_steps.proofs.EndDecisionLemmas.{decides_at, decides_none}
 use Rattle.driver_steps.proofs.HousedLemmas.{housed_set}
 use Rattle.driver_steps.proofs.open_logs.OpenLogs.offer.Goals as goal
 

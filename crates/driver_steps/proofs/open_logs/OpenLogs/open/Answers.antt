@@ -1,12 +1,13 @@
 use Rattle.std.specs.Vec.{vec_capacity}
 use Rattle.std.proofs.Common.{rules, ◌≡◌, ◌*◌, ◌/◌, ◌%◌, ◌<◌, ◌++◌, ◌∷◌, true, List, [], sym, ap, ap₂, subst, ◌∙◌, arith}
-use Rattle.any_log.specs.declared.any_log.AnyLog.{AnyLog}
-use Rattle.any_log.specs.declared.any_log.AnyLog.TheVariants.{Term}
+use Rattle.log_traffic.specs.declared.any_log.AnyLog.{AnyLog}
+use Rattle.log_traffic.specs.declared.any_log.AnyLog.TheVariants.{Term}
 use Rattle.term_log.specs.Kept.{opened}
 use Rattle.term_log.specs.Sender.{sending}
-use Rattle.driver_steps.specs.Held.{HeldLog, HeldLogs, plot_of, plot_on, plots_of}
-use Rattle.driver_steps.specs.Plots.{IsLeastVacant, Plot}
-use Rattle.driver_steps.specs.Recovery.{recovering}
+use Rattle.log_steps.specs.Held.{HeldLog, plot_of, plot_on}
+use Rattle.driver_steps.specs.OpenLogs.{HeldLogs, plots_of}
+use Rattle.log_steps.specs.Plots.{IsLeastVacant, Plot}
+use Rattle.log_steps.specs.Recovery.{recovering}
 use Rattle.driver_steps.proofs.HousedLemmas.{IsLeaseOf, housed_leased, least_is, some_place}
 use Rattle.log_arena.specs.Lease.{lease_home, lease_place}
 use Rattle.log_arena.specs.Pages.{IsLeastPlace, Region, marked}

@@ -1,14 +1,15 @@
 use Rattle.std.specs.Vec.{vec_capacity}
 use Rattle.std.proofs.Common.{rules, ◌≡◌, ◌*◌, ◌/◌, ◌%◌, ◌<◌, ◌++◌, ◌∷◌, true, List, [], sym, ap, ap₂, subst, ◌∙◌, arith}
-use Rattle.any_log.specs.declared.any_log.AnyLog.{AnyLog}
-use Rattle.any_log.specs.declared.any_log.AnyLog.TheVariants.{Image}
-use Rattle.driver_steps.specs.Idents.{heard_at}
+use Rattle.log_traffic.specs.declared.any_log.AnyLog.{AnyLog}
+use Rattle.log_traffic.specs.declared.any_log.AnyLog.TheVariants.{Image}
+use Rattle.log_steps.specs.Idents.{heard_at}
 use Rattle.image_log.specs.Log.{log_in}
 use Rattle.image_log.specs.Rebuilt.{opened}
 use Rattle.image_log.specs.Stored.{held_of}
-use Rattle.driver_steps.specs.Held.{HeldLog, HeldLogs, plot_of, plot_on, plots_of}
-use Rattle.driver_steps.specs.Plots.{IsLeastVacant, Plot}
-use Rattle.driver_steps.specs.Recovery.{recovering}
+use Rattle.log_steps.specs.Held.{HeldLog, plot_of, plot_on}
+use Rattle.driver_steps.specs.OpenLogs.{HeldLogs, plots_of}
+use Rattle.log_steps.specs.Plots.{IsLeastVacant, Plot}
+use Rattle.log_steps.specs.Recovery.{recovering}
 use Rattle.driver_steps.proofs.HousedLemmas.{IsLeaseOf, housed_leased, least_is, some_place}
 use Rattle.log_arena.specs.Lease.{lease_home, lease_place}
 use Rattle.log_arena.specs.Pages.{IsLeastPlace, Region, marked}

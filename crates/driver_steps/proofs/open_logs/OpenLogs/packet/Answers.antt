@@ -2,19 +2,21 @@ use Rattle.std.proofs.Common.{◌≡◌, ◌<◌, IfSome, List, Option, length, 
 use Rattle.std.specs.Vec.{vec_capacity}
 use Rattle.std.specs.Prelude.{slice_set}
 use Rattle.std.proofs.lemmas.List.{get_or_default, set-get_or}
-use Rattle.any_log.specs.Held.{made_held}
-use Rattle.driver_steps.specs.Receiving.{unheard}
-use Rattle.driver_steps.specs.Packets.{IsFor, IsForFirst, content_move}
+use Rattle.log_traffic.specs.Held.{made_held}
+use Rattle.log_steps.specs.Receiving.{unheard}
+use Rattle.log_steps.specs.Packets.{IsFor, content_move}
+use Rattle.driver_steps.specs.OpenLogs.{IsForFirst, HeldLogs, held_at, place_at, GivesFirst, MovesFirst, DecidesFirst}
 use Rattle.frame_codec.specs.Datagram.{content}
 use Rattle.policy_core.specs.declared.decision.Decision.{Decision}
-use Rattle.driver_steps.specs.Held.{HeldLog, HeldLogs, LiesAsBefore, held_at, place_at}
-use Rattle.driver_steps.specs.Memory.{Gives, GivesFirst}
-use Rattle.driver_steps.specs.Moves.{Does, MovesFirst, WholeLog, for_source}
-use Rattle.driver_steps.proofs.HeldLemmas.{err_each, found_at, moves_none, ok_each}
-use Rattle.driver_steps.specs.Decided.{Decides, DecidesFirst, decision_for}
-use Rattle.driver_steps.specs.declared.told.Told.{Told}
-use Rattle.driver_steps.proofs.DecidedLemmas.{decides_none}
-use Rattle.driver_steps.proofs.GateLemmas.{decides_for, gives_for, moves_for}
+use Rattle.log_steps.specs.Held.{HeldLog, LiesAsBefore}
+use Rattle.log_steps.specs.Memory.{Gives}
+use Rattle.log_steps.specs.Moves.{Does, WholeLog, for_source}
+use Rattle.log_steps.proofs.ResultLemmas.{err_each, ok_each}
+use Rattle.driver_steps.proofs.OpenLogLemmas.{found_at, moves_none}
+use Rattle.log_steps.specs.Decided.{Decides, decision_for}
+use Rattle.log_steps.specs.declared.answered.Answered.{Answered}
+use Rattle.driver_steps.proofs.EndDecisionLemmas.{decides_none}
+use Rattle.driver_steps.proofs.FirstLemmas.{decides_for, gives_for, moves_for}
 use Rattle.driver_steps.proofs.HousedLemmas.{housed_set}
 use Rattle.driver_steps.proofs.open_logs.OpenLogs.packet.Goals as goal
 
@@ -58,8 +60,8 @@ returns-clause-moved c =
     let place : place_at old.logs c.args.request.now.source ≡ Some c.in-Some.at =
     ap (λ l. place_at l c.args.request.now.source) (sym c.as_slice.ensures.value) ∙ sym c.place_of.ensures ∙ c.in-Some.is in
     let new : HeldLogs = record { pages = old.pages; logs = slice_set old.logs c.in-Some.at log; room = old.room } in
-    ok_each (λ (told : Told). Does (for_source c.args.request.now.source move unheard) held log told.answer)
-    (λ (told : Told). MovesFirst c.args.request.now.source move unheard c.args.self.now new told.answer)
+    ok_each (λ (told : Answered). Does (for_source c.args.request.now.source move unheard) held log told.answer)
+    (λ (told : Answered). MovesFirst c.args.request.now.source move unheard c.args.self.now new told.answer)
     (λ told does.
     subst (λ (h : HeldLogs). MovesFirst c.args.request.now.source move unheard h new told.answer) c.self.view_is
     (moves_for c.args.request.now.source move unheard told.answer old c.in-Some.at held log place c.index_mut.ensures.value does c.packet_step.ensures.lies))
@@ -107,8 +109,8 @@ returns-clause-decides c =
     let decide : WholeLog → Option Decision = λ log. c.args.request.now.decision in
     let place : place_at old.logs c.args.request.now.source ≡ Some c.in-Some.at =
     ap (λ l. place_at l c.args.request.now.source) (sym c.as_slice.ensures.value) ∙ sym c.place_of.ensures ∙ c.in-Some.is in
-    ok_each (λ (told : Told). Decides (decision_for c.args.request.now.source decide) held told.decision)
-    (λ (told : Told). DecidesFirst c.args.request.now.source decide told.decision c.args.self.now)
+    ok_each (λ (told : Answered). Decides (decision_for c.args.request.now.source decide) held told.decision)
+    (λ (told : Answered). DecidesFirst c.args.request.now.source decide told.decision c.args.self.now)
     (λ told decides.
     subst (λ (h : HeldLogs). DecidesFirst c.args.request.now.source decide told.decision h) c.self.view_is
     (decides_for c.args.request.now.source decide old c.in-Some.at held told.decision place c.index_mut.ensures.value decides))

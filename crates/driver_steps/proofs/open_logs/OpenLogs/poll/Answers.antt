@@ -2,15 +2,17 @@ use Rattle.std.proofs.Common.{◌≡◌, ◌<◌, List, length, Some, None, sym,
 use Rattle.std.specs.Vec.{vec_capacity}
 use Rattle.std.specs.Prelude.{slice_set}
 use Rattle.std.proofs.lemmas.List.{get_or_default, set-get_or}
-use Rattle.driver_steps.specs.declared.answer.Answer.TheVariants.{Gone}
-use Rattle.driver_steps.specs.Held.{HeldLog, HeldLogs, LiesAsBefore, place_at}
-use Rattle.driver_steps.specs.Memory.{Gives, GivesFirst}
-use Rattle.driver_steps.specs.Moves.{Does, MovesFirst, for_source, poll_move}
-use Rattle.driver_steps.proofs.HeldLemmas.{err_each, found_at, moves_none, ok_each}
-use Rattle.driver_steps.specs.Decided.{Decides, DecidesFirst, decision_for, poll_decision}
-use Rattle.driver_steps.specs.declared.told.Told.{Told}
-use Rattle.driver_steps.proofs.DecidedLemmas.{decides_none}
-use Rattle.driver_steps.proofs.GateLemmas.{decides_for, gives_for, moves_for}
+use Rattle.log_steps.specs.declared.answer.Answer.TheVariants.{Gone}
+use Rattle.log_steps.specs.Held.{HeldLog, LiesAsBefore}
+use Rattle.driver_steps.specs.OpenLogs.{HeldLogs, place_at, GivesFirst, MovesFirst, DecidesFirst}
+use Rattle.log_steps.specs.Memory.{Gives}
+use Rattle.log_steps.specs.Moves.{Does, for_source, poll_move}
+use Rattle.log_steps.proofs.ResultLemmas.{err_each, ok_each}
+use Rattle.driver_steps.proofs.OpenLogLemmas.{found_at, moves_none}
+use Rattle.log_steps.specs.Decided.{Decides, decision_for, poll_decision}
+use Rattle.log_steps.specs.declared.answered.Answered.{Answered}
+use Rattle.driver_steps.proofs.EndDecisionLemmas.{decides_none}
+use Rattle.driver_steps.proofs.FirstLemmas.{decides_for, gives_for, moves_for}
 use Rattle.driver_steps.proofs.HousedLemmas.{housed_set}
 use Rattle.driver_steps.proofs.open_logs.OpenLogs.poll.Goals as goal
 
@@ -42,8 +44,8 @@ returns-clause-moved g c =
     let place : place_at old.logs c.args.source ≡ Some c.in-Some.at =
     ap (λ l. place_at l c.args.source) (sym c.as_slice.ensures.value) ∙ sym c.place_of.ensures ∙ c.in-Some.is in
     let new : HeldLogs = record { pages = old.pages; logs = slice_set old.logs c.in-Some.at log; room = old.room } in
-    ok_each (λ (told : Told). Does (for_source c.args.source move Gone) held log told.answer)
-    (λ (told : Told). MovesFirst c.args.source move Gone c.args.self.now new told.answer)
+    ok_each (λ (told : Answered). Does (for_source c.args.source move Gone) held log told.answer)
+    (λ (told : Answered). MovesFirst c.args.source move Gone c.args.self.now new told.answer)
     (λ told does.
     subst (λ (h : HeldLogs). MovesFirst c.args.source move Gone h new told.answer) c.self.view_is
     (moves_for c.args.source move Gone told.answer old c.in-Some.at held log place c.index_mut.ensures.value does c.poll_step.ensures.lies))
@@ -91,8 +93,8 @@ returns-clause-decides g c =
     let decide = poll_decision (g.V.View.shows c.args.view.now) c.args.client c.args.subscription in
     let place : place_at old.logs c.args.source ≡ Some c.in-Some.at =
     ap (λ l. place_at l c.args.source) (sym c.as_slice.ensures.value) ∙ sym c.place_of.ensures ∙ c.in-Some.is in
-    ok_each (λ (told : Told). Decides (decision_for c.args.source decide) held told.decision)
-    (λ (told : Told). DecidesFirst c.args.source decide told.decision c.args.self.now)
+    ok_each (λ (told : Answered). Decides (decision_for c.args.source decide) held told.decision)
+    (λ (told : Answered). DecidesFirst c.args.source decide told.decision c.args.self.now)
     (λ told decides.
     subst (λ (h : HeldLogs). DecidesFirst c.args.source decide told.decision h) c.self.view_is
     (decides_for c.args.source decide old c.in-Some.at held told.decision place c.index_mut.ensures.value decides))

@@ -1,8 +1,9 @@
-use Rattle.std.proofs.Common.{rules, ◌≡◌, ◌<◌, List, length, get_or, ap, ◌∙◌}
+use Rattle.std.proofs.Common.{rules, ◌≡◌, ℕ, ◌<◌, List, length, get_or, ap, ◌∙◌}
 use Rattle.driver_core.specs.Pairs.{pairs_of}
 use Rattle.driver_core.specs.Readers.{readers_of}
-use Rattle.driver_steps.specs.Held.{HeldLog, HeldLogs}
-use Rattle.driver_steps.proofs.HeldLemmas.{rejoin_more}
+use Rattle.log_steps.specs.Held.{HeldLog}
+use Rattle.driver_steps.specs.OpenLogs.{HeldLogs}
+use Rattle.driver_steps.proofs.OpenLogLemmas.{rejoin_more}
 use Rattle.driver_steps.proofs.open_logs.OpenLogs.rejoin.Goals as goal
 
 pub loop-at-preserved : goal.loop-at-preserved
@@ -16,6 +17,6 @@ loop-at-preserved c =
       ap (λ (h : HeldLogs). h.room) c.rejoin_at.ensures ∙ c.loop-at.invariant.1,
       rejoin_more (pairs_of c.args.registry.now) c.args.self.now.logs now c.rejoin_at.new.self.logs c.loop-at.at held c.as_slice.result.now within
           c.loop-at.invariant.2 found
-          (c.as_slice.ensures.value ∙ c.readers.ensures ∙ ap (λ (h : HeldLog). readers_of (pairs_of c.args.registry.now) h.source) c.behind-self.view_is)
+          (c.as_slice.ensures.value ∙ c.readers.ensures ∙ ap (λ (n : ℕ). readers_of (pairs_of c.args.registry.now) n) c.source.ensures)
           (ap (λ (h : HeldLogs). h.logs) c.rejoin_at.ensures),
     )

@@ -1,6 +1,6 @@
 use Rattle.std.proofs.Common.{◌≡◌, ◌++◌, take, drop, map}
 use Rattle.driver_core.specs.Pairs.{pairs_of}
-use Rattle.driver_steps.specs.Held.{rejoined_held}
+use Rattle.driver_steps.specs.OpenLogs.{rejoined_held}
 use Rattle.driver_steps.proofs.open_logs.OpenLogs.rejoin.Given as goal
 
 -- the logs passed are read as the registry says, and the others are as they were

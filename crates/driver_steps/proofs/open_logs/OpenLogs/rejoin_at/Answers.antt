@@ -1,11 +1,12 @@
 use Rattle.std.proofs.Common.{ℕ, ◌<◌, List, length, sym, ap, subst, ◌∙◌}
 use Rattle.std.specs.Vec.{vec_capacity}
 use Rattle.std.proofs.lemmas.List.{get_or_default}
-use Rattle.any_log.specs.Held.{rejoined_held as rejoined_any}
-use Rattle.driver_steps.specs.Held.{HeldLog, HeldLogs, LiesAsBefore, with_readers}
-use Rattle.driver_steps.proofs.HeldLemmas.{readers_set}
+use Rattle.log_steps.specs.Held.{HeldLog, LiesAsBefore}
+use Rattle.driver_steps.specs.OpenLogs.{HeldLogs, with_readers}
+use Rattle.driver_steps.proofs.OpenLogLemmas.{readers_set}
 use Rattle.driver_steps.proofs.HousedLemmas.{housed_set}
 use Rattle.driver_steps.proofs.open_logs.OpenLogs.rejoin_at.Goals as goal
+use Rattle.log_traffic.specs.Held.{rejoined_held as rejoined_any}
 
 pub invariant_of-self : goal.invariant_of-self
 invariant_of-self c =

@@ -14,5 +14,5 @@ returns c =
     (offer_served (record { driver = c.self.inside.driver; audits = c.self.inside.audits.audits; past = c.self.inside.past.past; seats = c.self.inside.seats.seats })
     c.sit.new.self c.offer-told.new.self c.tell_client.new.self.audits c.args.view c.args.now c.args.client c.args.registration c.args.message.now c.in-Ok.look
     c.offer-told.result.answer c.offer-told.result.decision (look_in _ c.args.self.now (Client c.args.client) c.args.view c.in-Ok.look (c.self.view_is ∙ c.look.ensures.same) c.in-Ok.ensures.ok)
-    (rw (← c.at-now.ensures, ← c.older.ensures) c.offer-told.ensures.reads)
+    (rw (← c.at-now.ensures, ← c.older.ensures) c.offer-told.ensures.serves)
     (rw (← c.older.ensures) c.offer-told.ensures.decides) c.tell_client.ensures (rw (← c.at-now.ensures) c.sit.ensures))

@@ -1,7 +1,8 @@
 use Rattle.std.proofs.Common.{◌≡◌, ◌∙◌, refl, subst}
-use Rattle.driver_steps.specs.Reads.{ComesRead}
-use Rattle.driver_steps.specs.declared.told.Came.{Came}
-use Rattle.driver_steps.specs.declared.told.Came.TheVariants as came
+use Rattle.driver_steps.specs.Coming.{Comes}
+use Rattle.driver_steps.specs.Ends.{looks_at}
+use Rattle.log_steps.specs.declared.answered.Came.{Came}
+use Rattle.log_steps.specs.declared.answered.Came.TheVariants as came
 use Rattle.driver_world.specs.Past.{shown_state}
 use Rattle.driver_world.specs.Views.{reader_of}
 use Rattle.driver_world.proofs.ServeLemmas.{look_in, not_looked, packet_served}
@@ -17,12 +18,12 @@ returns-in-Err c =
 pub returns : goal.returns
 returns c =
     let reader : c.reader_of-actor.result ≡ reader_of (packet_of c.args.bytes.now) = c.reader_of-actor.ensures (packet_of c.args.bytes.now) c.requires.reads in
-    let comes : ComesRead (shown_state c.in-Ok.look.older) c.self.inside.driver c.datagram.new.self c.at-now.result c.args.local.now c.args.from.now c.args.bytes.now (came.Told c.in-Told.told) =
-    subst (λ (came : Came). ComesRead (shown_state c.in-Ok.look.older) c.self.inside.driver c.datagram.new.self c.at-now.result c.args.local.now c.args.from.now c.args.bytes.now came) c.in-Told.is
+    let comes : Comes (looks_at c.self.inside.driver.registry (shown_state c.in-Ok.look.older)) c.self.inside.driver c.datagram.new.self c.at-now.result c.args.local.now c.args.from.now c.args.bytes.now (came.Answered c.in-Answered.told) =
+    subst (λ (came : Came). Comes (looks_at c.self.inside.driver.registry (shown_state c.in-Ok.look.older)) c.self.inside.driver c.datagram.new.self c.at-now.result c.args.local.now c.args.from.now c.args.bytes.now came) c.in-Answered.is
     (rw (← c.older.ensures) c.datagram.ensures) in
     rw (← c.look.ensures.same, ← c.self.view_is)
     (packet_served (record { driver = c.self.inside.driver; audits = c.self.inside.audits.audits; past = c.self.inside.past.past; seats = c.self.inside.seats.seats })
     c.sit.new.self c.datagram.new.self c.tell_sender.new.self.audits c.args.view c.args.now c.args.local.now c.args.from.now c.args.bytes.now c.in-Ok.look
-    c.in-Told.told c.requires.looks
+    c.in-Answered.told c.requires.looks
     (look_in _ c.args.self.now (reader_of (packet_of c.args.bytes.now)) c.args.view c.in-Ok.look (c.self.view_is ∙ c.look.ensures.same) (rw (← reader) c.in-Ok.ensures.ok))
     (rw (← c.at-now.ensures) comes) c.tell_sender.ensures (rw (← c.at-now.ensures, ← reader) c.sit.ensures))

@@ -14,5 +14,5 @@ returns c =
     (value_served (record { driver = c.self.inside.driver; audits = c.self.inside.audits.audits; past = c.self.inside.past.past; seats = c.self.inside.seats.seats })
     c.sit.new.self c.tell_client.new.self.audits c.args.view c.args.now c.args.client c.args.number c.in-Ok.look
     c.value-told.result.answer c.value-told.result.decision (look_in _ c.args.self.now (Client c.args.client) c.args.view c.in-Ok.look (c.self.view_is ∙ c.look.ensures.same) c.in-Ok.ensures.ok)
-    (rw (← c.at-now.ensures, ← c.older.ensures) c.value-told.ensures.reads)
+    (rw (← c.at-now.ensures, ← c.older.ensures) c.value-told.ensures.serves)
     (rw (← c.older.ensures) c.value-told.ensures.decides) c.tell_client.ensures (rw (← c.at-now.ensures) c.sit.ensures))

@@ -1,0 +1,13 @@
+use Rattle.std.proofs.Common.{sym, subst}
+use Rattle.log_steps.proofs.MoveLemmas.{held_lies}
+use Rattle.log_steps.proofs.open_log.OpenLog.leave.Goals as goal
+use Rattle.log_traffic.specs.declared.any_log.AnyLog.{AnyLog}
+use Rattle.log_traffic.specs.Held.{Lies}
+use Rattle.log_traffic.proofs.PairLemmas.{left_lies}
+
+pub returns-clause-lies : goal.returns-clause-lies
+returns-clause-lies c =
+    rw (← c.self.view_is)
+    (held_lies c.self.inside.source c.self.inside.recovery c.self.inside.recovery c.self.inside.log c.leave.new.self
+    (subst (λ (l : AnyLog). Lies c.self.inside.log l) (sym c.leave.ensures.exact)
+    (left_lies c.args.subscription c.self.inside.log)))

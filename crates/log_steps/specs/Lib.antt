@@ -1,0 +1,14 @@
+pub mod Answers
+pub mod Decided
+pub mod Hearing
+pub mod Held
+pub mod Idents
+pub mod Memory
+pub mod Moves
+pub mod Packets
+pub mod Plots
+pub mod Receiving
+pub mod Recovery
+pub mod Reporting
+pub mod Rooms
+pub mod Sending
