@@ -3,7 +3,7 @@
 use crate::fault::Fault;
 use crate::station::{Naks, Station};
 use driver_core::Reply;
-use driver_steps::FragmentCopies;
+use log_steps::FragmentCopies;
 use media_driver::{ClientReply, DriverNaming, Elicitation, PollFault};
 use piped_messages::{Form, Joiner, Received};
 use printed_streams::{Image, Images, Inbox, Output};

@@ -1,33 +1,33 @@
 -- What each step on a log does to the number of messages that it has taken.
 use Rattle.std.proofs.Common.{◌≡◌, ℕ, ◌+◌, ◌==◌, Bool, true, false, not, nat_lt, length, List, Option, Some, None, refl, sym, ap, ◌∙◌, arith}
 use Rattle.std.specs.Prelude.{if◌then◌else◌}
-use Rattle.any_log.proofs.PairLemmas.{messages_count}
-use Rattle.any_log.specs.declared.any_log.AnyLog.{AnyLog}
-use Rattle.any_log.specs.declared.any_log.AnyLog.TheVariants.{Term, Image}
-use Rattle.any_log.specs.Held.{messages_held, rejoined_held}
-use Rattle.any_log.specs.Whole.{AnyWhole, whole, rebuilt, HasWhole, messages_in, position_in}
 use Rattle.channel_uri.specs.declared.address.Address.{Address}
-use Rattle.driver_core.specs.declared.log_request.LogRequest.{LogRequest}
+use Rattle.driver_core.specs.declared.asked.log_request.LogRequest.{LogRequest}
 use Rattle.driver_core.specs.LogRequests.{offering_of, receiving_of}
 use Rattle.driver_core.specs.PublicationRequests.{publisher_of}
 use Rattle.driver_core.specs.SendRequests.{sending_of}
 use Rattle.driver_core.specs.State.{State}
-use Rattle.driver_steps.specs.declared.answer.Answer.{Answer}
-use Rattle.driver_steps.specs.declared.answer.Answer.TheVariants.{Denied, Offered as OfferedAs}
-use Rattle.driver_steps.specs.declared.answer.Offered.TheVariants.{Closed, TooLong as IsTooLong, NotConnected}
-use Rattle.driver_steps.specs.Answers.{offered_as}
-use Rattle.driver_steps.specs.Held.{HeldLog}
-use Rattle.driver_steps.specs.Moves.{Does, Move, WholeLog, answered, for_source, given, offer_let, offer_move, offer_to, offer_under, offers, poll_move, poll_under, taken}
-use Rattle.driver_steps.specs.Packets.{content_move, packet_move}
-use Rattle.driver_steps.specs.declared.packets.PacketRequest.{PacketRequest}
-use Rattle.driver_steps.specs.Receiving.{receive_move, unheard}
-use Rattle.driver_steps.specs.Reporting.{image_move, report_by}
-use Rattle.driver_steps.proofs.HearingLemmas.{status_whole}
-use Rattle.driver_steps.specs.Sending.{pace_of, send_by, send_move}
+use Rattle.log_steps.specs.declared.answer.Answer.{Answer}
+use Rattle.log_steps.specs.declared.answer.Answer.TheVariants.{Denied, Offered as OfferedAs}
+use Rattle.log_steps.specs.declared.answer.Offered.TheVariants.{Closed, TooLong as IsTooLong, NotConnected}
+use Rattle.log_steps.specs.Answers.{offered_as}
+use Rattle.log_steps.specs.Held.{HeldLog}
+use Rattle.log_steps.specs.Moves.{Does, Move, WholeLog, answered, for_source, given, offer_let, offer_move, offer_to, offer_under, offers, poll_move, poll_under, taken}
+use Rattle.log_steps.specs.Packets.{content_move, packet_move}
+use Rattle.log_steps.specs.declared.packets.PacketRequest.{PacketRequest}
+use Rattle.log_steps.specs.Receiving.{receive_move, unheard}
+use Rattle.log_steps.specs.Reporting.{image_move, report_by}
+use Rattle.log_steps.proofs.HearingLemmas.{status_whole}
+use Rattle.log_steps.specs.Sending.{pace_of, send_by, send_move}
 use Rattle.frame_codec.specs.Datagram.{Content, frames, beat, nak, status, setup}
 use Rattle.frame_codec.specs.Frame.{Sent}
 use Rattle.log_slots.proofs.WholeCounts.{beaten_keeps, polled_keeps, received_keeps, report_keeps, status_keeps, turn_keeps}
 use Rattle.log_slots.specs.Counting.{taken_by}
+use Rattle.log_traffic.proofs.PairLemmas.{messages_count}
+use Rattle.log_traffic.specs.declared.any_log.AnyLog.{AnyLog}
+use Rattle.log_traffic.specs.declared.any_log.AnyLog.TheVariants.{Term, Image}
+use Rattle.log_traffic.specs.Held.{messages_held, rejoined_held}
+use Rattle.log_traffic.specs.Whole.{AnyWhole, whole, rebuilt, HasWhole, messages_in, position_in}
 use Rattle.policy_core.specs.declared.decision.Decision.{Decision}
 use Rattle.policy_core.specs.declared.verdict.Verdict.{Verdict}
 use Rattle.term_log.proofs.Counts.{offered_counts}

@@ -2,14 +2,14 @@
 use Rattle.std.proofs.Common.{◌≡◌, ℕ, ℤ, Bool, true, false, ◌&&◌, List, [], ◌∷◌, Result, Ok, Err, IfOk, OnErr, refl, sym, ap, subst, ◌∙◌}
 use Rattle.std.specs.Ordering.{int_eq}
 use Rattle.std.proofs.lemmas.Bool.Decides.{Decides-int_eq}
-use Rattle.any_log.specs.Held.{Made, for_publication, for_stream}
-use Rattle.driver_steps.specs.Held.{HeldLog, LiesAsBefore}
-use Rattle.driver_steps.specs.Packets.{IsFor, IsSoundContent}
+use Rattle.log_steps.specs.Held.{HeldLog, LiesAsBefore}
+use Rattle.log_steps.specs.Packets.{IsFor, IsSoundContent}
 use Rattle.frame_codec.specs.Datagram.{Content, frames, beat, nak, status, setup}
 use Rattle.frame_codec.specs.Frame.{Sent}
-use Rattle.image_receiver.proofs.ReceivingLemmas.{frames_are}
 use Rattle.log_arena.specs.Homes.{Home}
 use Rattle.log_slots.specs.Slots.{IsMadeFor, IsOwn, is_of}
+use Rattle.log_traffic.specs.Held.{Made, for_publication, for_stream}
+use Rattle.log_traffic.proofs.ReceivingLemmas.{frames_are}
 
 -- it is the slot's still
 pub own_moved : (home : Home) (source : ℕ) (session stream : ℤ) (old new : HeldLog) → LiesAsBefore old new → IsOwn home source session stream old →

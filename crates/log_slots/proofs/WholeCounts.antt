@@ -1,20 +1,20 @@
 -- No call but an offer changes how many messages a log has taken, whatever the log stands for.
 use Rattle.std.proofs.Common.{◌≡◌, ℕ, Bool, true, false, List, Option, Some, None, refl, ap}
 use Rattle.std.specs.Prelude.{if◌then◌else◌}
-use Rattle.any_log.specs.Asking.{after_status}
-use Rattle.any_log.specs.Reporting.{after_report}
-use Rattle.any_log.specs.Sending.{after_turn}
-use Rattle.any_log.specs.Whole.{AnyWhole, whole, rebuilt, beaten, messages_in, polled, received}
 use Rattle.frame_codec.specs.declared.header.TermPlace.{TermPlace}
 use Rattle.frame_codec.specs.declared.status_message.StatusMessage.{StatusMessage}
 use Rattle.frame_codec.specs.Frame.{Sent}
-use Rattle.image_receiver.specs.Receiver.{Receiving}
 use Rattle.log_pairs.specs.Pairs.{position_of}
-use Rattle.publication_sender.specs.declared.cutting.DatagramKind.{DatagramKind}
-use Rattle.publication_sender.specs.declared.cutting.DatagramKind.TheVariants as kinds
-use Rattle.publication_sender.specs.declared.cutting.Pace.{Pace}
-use Rattle.publication_sender.specs.Cutting.{after_due, cut_of, due_of}
-use Rattle.publication_sender.specs.Hearing.{heard_of}
+use Rattle.log_traffic.specs.Asking.{after_status}
+use Rattle.log_traffic.specs.Reporting.{after_report}
+use Rattle.log_traffic.specs.Sending.{after_turn}
+use Rattle.log_traffic.specs.Whole.{AnyWhole, whole, rebuilt, beaten, messages_in, polled, received}
+use Rattle.log_traffic.specs.Receiver.{Receiving}
+use Rattle.log_traffic.specs.declared.cutting.DatagramKind.{DatagramKind}
+use Rattle.log_traffic.specs.declared.cutting.DatagramKind.TheVariants as kinds
+use Rattle.log_traffic.specs.declared.cutting.Pace.{Pace}
+use Rattle.log_traffic.specs.Cutting.{after_due, cut_of, due_of}
+use Rattle.log_traffic.specs.Hearing.{heard_of}
 use Rattle.term_log.specs.Frames.{messages_of}
 use Rattle.term_log.specs.SenderSteps.{datagram_cut, sent_on, sent_to, setup_cut}
 use Rattle.term_log.specs.Whole.{Whole, polled as term_polled, polled_from}

@@ -1,9 +1,9 @@
 -- What is counted: each message that a log took, once; and what the lock of a slot guards, with its share of the ledger.
 -- Own rules.
 use Rattle.std.specs.Prelude.{◌≡◌, ℕ, ◌+◌, ◌-◌, ◌^◌, ◌⊎◌, Bool, true, false, List, None, if◌then◌else◌}
-use Rattle.driver_steps.specs.declared.answer.Answer.{Answer}
-use Rattle.driver_steps.specs.declared.answer.Answer.TheVariants.{Offered as OfferedAs}
-use Rattle.driver_steps.specs.declared.answer.Offered.TheVariants.{At}
+use Rattle.log_steps.specs.declared.answer.Answer.{Answer}
+use Rattle.log_steps.specs.declared.answer.Answer.TheVariants.{Offered as OfferedAs}
+use Rattle.log_steps.specs.declared.answer.Offered.TheVariants.{At}
 use Rattle.log_slots.specs.Slots.{SlotLog, messages_in}
 use Rattle.receiver_reports.specs.declared.report.Report.{Report}
 

@@ -1,15 +1,15 @@
 -- A log that opens in a slot. Own rules.
 use Rattle.std.specs.Prelude.{◌≡◌, ℕ, ◌*◌, ◌/◌, Option, Some, None}
-use Rattle.any_log.specs.Held.{made_held, messages_held, place_held}
-use Rattle.any_log.specs.Whole.{StandsFor}
-use Rattle.driver_core.specs.declared.settings.Settings.{Settings}
-use Rattle.driver_steps.specs.Held.{HeldLog}
-use Rattle.driver_steps.specs.Idents.{begins_of}
+use Rattle.driver_core.specs.declared.state.settings.Settings.{Settings}
+use Rattle.log_steps.specs.Held.{HeldLog}
+use Rattle.log_steps.specs.Idents.{begins_of}
 use Rattle.log_arena.specs.Homes.{Home}
 use Rattle.log_slots.specs.declared.memory.LogMemory.{LogMemory}
 use Rattle.log_slots.specs.declared.memory.LogMemory.TheVariants.{Publication, Image}
 use Rattle.log_slots.specs.Slots.{IsMadeFor}
-use Rattle.stream_registry.specs.declared.row.Source.{Source}
+use Rattle.log_traffic.specs.Held.{made_held, messages_held, place_held}
+use Rattle.log_traffic.specs.Whole.{StandsFor}
+use Rattle.stream_registry.specs.declared.row.LogRow.{LogRow}
 
 -- of how many bytes the log is for which the memory is: none are said of a publication's
 abbrev pub room_of : LogMemory → Option ℕ
@@ -17,7 +17,7 @@ room_of (Publication room) = None
 room_of (Image memory) = Some (3 * memory)
 
 -- it is the log of that row, in a lease of that region at the row's place, and begins as the row says
-pub record OpensAs (home : Home) (settings : Settings) (now : ℕ) (row : Source) (held : HeldLog) : Type 0 where
+pub record OpensAs (home : Home) (settings : Settings) (now : ℕ) (row : LogRow) (held : HeldLog) : Type 0 where
   pub source_is : held.source ≡ row.number
   pub made_is : IsMadeFor row.session row.stream (made_held held.log)
   pub home_is : (place_held held.log).home ≡ home

@@ -2,17 +2,17 @@
 -- control by status messages). Which receivers are counted is this project's own rule.
 use Rattle.std.specs.Prelude.{ℕ, Bool, true, false, List, Option, Some, None}
 use Rattle.std.specs.Option.{option_map}
-use Rattle.any_log.specs.Held.{position_held, reach_held}
-use Rattle.any_log.specs.Progress.{consumed_held, progress_held}
-use Rattle.any_log.specs.declared.progress.Progress.{Progress}
 use Rattle.channel_uri.specs.declared.address.Address.{Address}
-use Rattle.driver_steps.specs.declared.answer.Answer.{Answer}
-use Rattle.driver_steps.specs.declared.answer.Answer.TheVariants.{Limited}
-use Rattle.driver_steps.specs.Held.{HeldLog}
+use Rattle.log_steps.specs.declared.answer.Answer.{Answer}
+use Rattle.log_steps.specs.declared.answer.Answer.TheVariants.{Limited}
+use Rattle.log_steps.specs.Held.{HeldLog}
 use Rattle.frame_codec.specs.Datagram.{Content, status}
 use Rattle.log_slots.specs.declared.positions.PublicationPositions.{PublicationPositions}
 use Rattle.log_slots.specs.declared.positions.ReadingPositions.{ReadingPositions}
 use Rattle.log_slots.specs.Slots.{SlotLog, log_of}
+use Rattle.log_traffic.specs.Held.{position_held, reach_held}
+use Rattle.log_traffic.specs.Progress.{consumed_held, progress_held}
+use Rattle.log_traffic.specs.declared.progress.Progress.{Progress}
 use Rattle.receiver_reports.specs.declared.report.Report.{Report}
 use Rattle.receiver_reports.specs.Reports.{least_of, noted}
 

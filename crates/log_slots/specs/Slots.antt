@@ -1,16 +1,16 @@
 -- What the lock of a slot for logs guards, and what a step makes of it. Own rules.
 use Rattle.std.specs.Prelude.{◌≡◌, ℕ, ℤ, ◌==◌, ◌&&◌, Bool, true, false, List, [], ◌∷◌, Option, Some, None, if◌then◌else◌}
 use Rattle.std.specs.Ordering.{int_eq}
-use Rattle.any_log.specs.Held.{Made, for_publication, for_stream, is_silent_held, made_held, messages_held, place_held, reach_held, rejoined_held}
-use Rattle.driver_steps.specs.declared.answer.Answer.{Answer}
-use Rattle.driver_steps.specs.declared.packets.PacketRequest.{PacketRequest}
-use Rattle.driver_steps.specs.Decided.{Decides, decision_for}
-use Rattle.driver_steps.specs.Held.{HeldLog, LiesAsBefore}
-use Rattle.driver_steps.specs.Memory.{Gives}
-use Rattle.driver_steps.specs.Moves.{Does, Move, WholeLog}
-use Rattle.driver_steps.specs.Receiving.{unheard}
+use Rattle.log_steps.specs.declared.answer.Answer.{Answer}
+use Rattle.log_steps.specs.declared.packets.PacketRequest.{PacketRequest}
+use Rattle.log_steps.specs.Decided.{Decides, decision_for}
+use Rattle.log_steps.specs.Held.{HeldLog, LiesAsBefore}
+use Rattle.log_steps.specs.Memory.{Gives}
+use Rattle.log_steps.specs.Moves.{Does, Move, WholeLog}
+use Rattle.log_steps.specs.Receiving.{unheard}
 use Rattle.frame_codec.specs.Datagram.{Content, frames}
 use Rattle.log_arena.specs.Homes.{Home}
+use Rattle.log_traffic.specs.Held.{Made, for_publication, for_stream, is_silent_held, made_held, messages_held, place_held, reach_held, rejoined_held}
 use Rattle.policy_core.specs.declared.decision.Decision.{Decision}
 
 -- the number of the log that is there, or was there last, and its session and stream; and the log, while it is open

@@ -1,16 +1,16 @@
 //! What the lock of a slot guards, whether the slot is for publications or for images.
 
-ghost use Rattle.any_log.specs.Held.{made_held, messages_held, place_held};
-ghost use Rattle.any_log.specs.Layout.{HasLayout};
-ghost use Rattle.any_log.specs.Whole.{HasWhole};
-ghost use Rattle.driver_steps.specs.declared.answer.Answer.TheVariants.{Gone};
-ghost use Rattle.driver_steps.specs.Decided.{decision_for, poll_decision};
-ghost use Rattle.driver_steps.specs.Moves.{for_source, poll_move};
-ghost use Rattle.driver_steps.specs.Packets.{IsSoundContent, packet_move};
+ghost use Rattle.log_steps.specs.declared.answer.Answer.TheVariants.{Gone};
+ghost use Rattle.log_steps.specs.Decided.{decision_for, poll_decision};
+ghost use Rattle.log_steps.specs.Moves.{for_source, poll_move};
+ghost use Rattle.log_steps.specs.Packets.{IsSoundContent, packet_move};
 ghost use Rattle.frame_codec.specs.Datagram.{content};
 ghost use Rattle.learnt_addresses.specs.Laws.{AreOrderly};
 ghost use Rattle.log_slots.specs.Positions.{reading_in};
 ghost use Rattle.log_slots.specs.Slots.{DecidesHeard, DecidesIn, GivesHeard, GivesIn, Hears, IsMadeFor, IsSlot, Moves, SlotLog, log_of, packet_decision, reach_in, with_log, with_readers, without_log};
+ghost use Rattle.log_traffic.specs.Held.{made_held, messages_held, place_held};
+ghost use Rattle.log_traffic.specs.Layout.{HasLayout};
+ghost use Rattle.log_traffic.specs.Whole.{HasWhole};
 ghost use Rattle.std.specs.Prelude.{◌≡◌, ◌≤◌, length, None, IfErr, IfOk, IfSome, OnErr, OnOk};
 
 use crate::log_slot::LogSlot;
@@ -18,8 +18,8 @@ use crate::naming::Naming;
 use crate::positions::ReadingPositions;
 use crate::slot::Slot;
 use driver_core::{Address, View};
-use driver_steps::{Asks, OpenLog, PacketRequest, Told};
 use frame_codec::Packet;
+use log_steps::{Answered, Asks, OpenLog, PacketRequest};
 use std::alloc::{AllocError, Global};
 
 /// What the lock of a slot guards: a log that is open there, or none. What is done with a log of either kind is done by these.
@@ -73,7 +73,7 @@ pub trait Held<N: Naming> {
         subscription: u64,
         source: u64,
         limit: u32,
-    ) -> Result<Told, AllocError>
+    ) -> Result<Answered, AllocError>
         requires { A.is_right asker.old (V.shows view.now) }
         ensures moved { IfOk result (λ told. Moves (for_source source (poll_move (V.shows view.now) client subscription limit) Gone) Gone (kept self.old).log (kept self.new).log told.answer) }
         ensures decides { IfOk result (λ told. DecidesIn (decision_for source (poll_decision (V.shows view.now) client subscription)) (kept self.old).log told.decision) }
@@ -93,7 +93,7 @@ pub trait Held<N: Naming> {
         from: &Address,
         packet: Packet<'_>,
         request: &PacketRequest,
-    ) -> Result<Told, AllocError>
+    ) -> Result<Answered, AllocError>
         requires { IsSoundContent (content packet) }
         ensures moved { IfOk result (λ told. Hears (content packet.entry) (packet_move now from.now request.now (content packet.entry)) (kept self.old) (kept self.new).log told.answer) }
         ensures decides { IfOk result (λ told. DecidesHeard (content packet.entry) (packet_decision request.now) (kept self.old) told.decision) }
@@ -134,7 +134,7 @@ impl<N: Naming> Held<N> for LogSlot<N> {
         subscription: u64,
         source: u64,
         limit: u32,
-    ) -> Result<Told, AllocError> {
+    ) -> Result<Answered, AllocError> {
         self.poll(view, asker, alloc, client, subscription, source, limit)
     }
 
@@ -145,7 +145,7 @@ impl<N: Naming> Held<N> for LogSlot<N> {
         from: &Address,
         packet: Packet<'_>,
         request: &PacketRequest,
-    ) -> Result<Told, AllocError> {
+    ) -> Result<Answered, AllocError> {
         self.packet(alloc, now, from, packet, request)
     }
 }
@@ -182,7 +182,7 @@ impl<N: Naming> Held<N> for Slot<N> {
         subscription: u64,
         source: u64,
         limit: u32,
-    ) -> Result<Told, AllocError> {
+    ) -> Result<Answered, AllocError> {
         self.poll(view, asker, alloc, client, subscription, source, limit)
     }
 
@@ -193,7 +193,7 @@ impl<N: Naming> Held<N> for Slot<N> {
         from: &Address,
         packet: Packet<'_>,
         request: &PacketRequest,
-    ) -> Result<Told, AllocError> {
+    ) -> Result<Answered, AllocError> {
         self.packet(alloc, now, from, packet, request)
     }
 }

@@ -1,29 +1,29 @@
-ghost use Rattle.any_log.specs.Held.{made_held, place_held};
-ghost use Rattle.any_log.specs.Layout.{HasLayout};
-ghost use Rattle.any_log.specs.Whole.{HasWhole};
-ghost use Rattle.driver_steps.specs.declared.answer.Answer.TheVariants.{Gone, Offered as OfferedAs};
-ghost use Rattle.driver_steps.specs.declared.answer.Offered.TheVariants.{Closed};
-ghost use Rattle.driver_steps.specs.Decided.{decision_for, offer_decision, poll_decision};
-ghost use Rattle.driver_steps.specs.Moves.{for_source, offer_move, poll_move};
-ghost use Rattle.driver_steps.specs.Packets.{IsSoundContent, packet_move};
-ghost use Rattle.driver_steps.specs.Receiving.{unheard};
-ghost use Rattle.driver_steps.specs.Reporting.{image_move};
-ghost use Rattle.driver_steps.specs.Sending.{send_move};
+ghost use Rattle.log_steps.specs.declared.answer.Answer.TheVariants.{Gone, Offered as OfferedAs};
+ghost use Rattle.log_steps.specs.declared.answer.Offered.TheVariants.{Closed};
+ghost use Rattle.log_steps.specs.Decided.{decision_for, offer_decision, poll_decision};
+ghost use Rattle.log_steps.specs.Moves.{for_source, offer_move, poll_move};
+ghost use Rattle.log_steps.specs.Packets.{IsSoundContent, packet_move};
+ghost use Rattle.log_steps.specs.Receiving.{unheard};
+ghost use Rattle.log_steps.specs.Reporting.{image_move};
+ghost use Rattle.log_steps.specs.Sending.{send_move};
 ghost use Rattle.frame_codec.specs.Datagram.{content};
 ghost use Rattle.learnt_addresses.specs.Laws.{AreOrderly};
 ghost use Rattle.log_slots.specs.Counting.{taken_by};
 ghost use Rattle.log_slots.specs.Positions.{consumed_in, progress_in, reading_in};
 ghost use Rattle.log_slots.specs.Slots.{DecidesHeard, DecidesIn, GivesHeard, GivesIn, Hears, IsMadeFor, IsSlot, Moves, is_of, is_silent_in, log_of, messages_in, packet_decision, reach_in, with_readers, without_log};
+ghost use Rattle.log_traffic.specs.Held.{made_held, place_held};
+ghost use Rattle.log_traffic.specs.Layout.{HasLayout};
+ghost use Rattle.log_traffic.specs.Whole.{HasWhole};
 ghost use Rattle.std.specs.Prelude.{◌≡◌, ◌≢◌, ◌+◌, ◌≤◌, length, None, Some, IfErr, IfOk, IfSome, OnErr, OnOk};
 
 use crate::naming::Naming;
 use crate::positions::{ReadingPositions, consumed_by};
 use driver_core::{Address, Astray, View};
-use driver_steps::{
-    Answer, Asks, Cause, Offered, OpenLog, PacketRequest, Progress, Told, image_step, offer_step,
-    packet_step, poll_step, send_step,
-};
 use frame_codec::Packet;
+use log_steps::{
+    Answer, Answered, Asks, Cause, Offered, OpenLog, PacketRequest, Progress, image_step,
+    offer_step, packet_step, poll_step, send_step,
+};
 use std::alloc::{AllocError, Global};
 use std::marker::{Model, PhantomData};
 
@@ -51,30 +51,30 @@ impl<N: Naming> Model for LogSlot<N> {
 }
 
 /// No such subscription of the client reads a log that is open here.
-fn gone() -> Told
+fn gone() -> Answered
     ensures { result ≡ record { answer = Gone; decision = None } }
 {
-    Told {
+    Answered {
         answer: Answer::Gone,
         decision: None,
     }
 }
 
 /// The client's registration is with no log that is open here.
-pub(crate) fn closed() -> Told
+pub(crate) fn closed() -> Answered
     ensures { result ≡ record { answer = OfferedAs Closed; decision = None } }
 {
-    Told {
+    Answered {
         answer: Answer::Offered(Offered::Closed),
         decision: None,
     }
 }
 
 /// No log that is open here hears the datagram.
-fn dropped() -> Told
+fn dropped() -> Answered
     ensures { result ≡ record { answer = unheard; decision = None } }
 {
-    Told {
+    Answered {
         answer: Answer::Dropped(Cause::Astray(Astray::NoStream)),
         decision: None,
     }
@@ -268,7 +268,7 @@ impl<N: Naming> LogSlot<N> {
         client: u64,
         registration: u64,
         message: &[u8],
-    ) -> Told
+    ) -> Answered
         requires { A.is_right asker.old (V.shows view.now) }
         ensures moved { Moves (offer_move (V.shows view.now) now client registration message.now) (OfferedAs Closed) self.old.log self.new.log result.answer }
         ensures decides { DecidesIn (offer_decision (V.shows view.now) client registration) self.old.log result.decision }
@@ -293,7 +293,7 @@ impl<N: Naming> LogSlot<N> {
         subscription: u64,
         source: u64,
         limit: u32,
-    ) -> Result<Told, AllocError>
+    ) -> Result<Answered, AllocError>
         requires { A.is_right asker.old (V.shows view.now) }
         ensures moved { IfOk result (λ told. Moves (for_source source (poll_move (V.shows view.now) client subscription limit) Gone) Gone self.old.log self.new.log told.answer) }
         ensures decides { IfOk result (λ told. DecidesIn (decision_for source (poll_decision (V.shows view.now) client subscription)) self.old.log told.decision) }
@@ -325,7 +325,7 @@ impl<N: Naming> LogSlot<N> {
         from: &Address,
         packet: Packet<'_>,
         request: &PacketRequest,
-    ) -> Result<Told, AllocError>
+    ) -> Result<Answered, AllocError>
         requires { IsSoundContent (content packet) }
         ensures moved { IfOk result (λ told. Hears (content packet.entry) (packet_move now from.now request.now (content packet.entry)) self.old self.new.log told.answer) }
         ensures decides { IfOk result (λ told. DecidesHeard (content packet.entry) (packet_decision request.now) self.old told.decision) }

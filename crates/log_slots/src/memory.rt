@@ -1,6 +1,6 @@
 //! The memory for a log, which is taken before anything is changed.
 
-ghost use Rattle.driver_steps.specs.Opening.{memory_of};
+ghost use Rattle.log_steps.specs.Rooms.{memory_of};
 ghost use Rattle.log_slots.specs.Opening.{room_of};
 ghost use Rattle.std.specs.Prelude.{◌≡◌, IfOk};
 

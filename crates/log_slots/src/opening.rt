@@ -1,14 +1,14 @@
 //! The log that opens with an event, of a publication or of an image.
 
-ghost use Rattle.any_log.specs.Held.{for_stream};
-ghost use Rattle.any_log.specs.Whole.{rebuilt};
 ghost use Rattle.driver_core.specs.Soundness.{AreSizes, BeginsSoundly};
-ghost use Rattle.driver_steps.specs.Idents.{begins_of, heard_at, made_by, stream_ident};
-ghost use Rattle.driver_steps.specs.Opening.{IsRoomFor};
+ghost use Rattle.log_steps.specs.Idents.{begins_of, heard_at, made_by, stream_ident};
+ghost use Rattle.log_steps.specs.Rooms.{IsRoomFor};
 ghost use Rattle.image_log.specs.Rebuilt.{opened as image_opened};
 ghost use Rattle.log_arena.specs.Lease.{lease_bytes, lease_home, lease_len, lease_place};
 ghost use Rattle.log_arena.specs.Pages.{IsLeastPlace, marked};
 ghost use Rattle.log_slots.specs.Opening.{OpensAs, room_of};
+ghost use Rattle.log_traffic.specs.Held.{for_stream};
+ghost use Rattle.log_traffic.specs.Whole.{rebuilt};
 ghost use Rattle.std.specs.Prelude.{◌≡◌, ◌*◌, ◌/◌, ◌%◌, ◌<◌, ◌^◌, ℕ, true, replicate, IfNone, IfSome, IsSome, OnSome};
 ghost use Rattle.stream_registry.specs.LogPages.{log_pages};
 ghost use Rattle.stream_registry.specs.Origins.{is_published};
@@ -17,16 +17,16 @@ use crate::memory::{ImageMemory, LogMemory};
 use crate::naming::Naming;
 use crate::region::Region;
 use driver_core::Settings;
-use driver_steps::{OpenLog, ident_of, stream_ident};
 use log_arena::Lease;
-use stream_registry::{Origin, Source};
+use log_steps::{OpenLog, ident_of, stream_ident};
+use stream_registry::{LogRow, Origin};
 use term_log::LogRoom;
 
 /// Opens the log of a publication.
 fn open_publication<N: Naming>(
     room: LogRoom,
     lease: Lease,
-    row: &Source,
+    row: &LogRow,
     settings: Settings,
 ) -> OpenLog
     requires kind { is_published row.now ≡ true }
@@ -44,7 +44,7 @@ fn open_publication<N: Naming>(
 fn open_image<N: Naming>(
     memory: ImageMemory,
     lease: Lease,
-    row: &Source,
+    row: &LogRow,
     initial_term: i32,
     join: u64,
     now: u64,
@@ -75,7 +75,7 @@ fn open_image<N: Naming>(
 pub fn open_log<N: Naming>(
     region: &mut Region<N>,
     memory: LogMemory,
-    row: &Source,
+    row: &LogRow,
     now: u64,
     settings: Settings,
 ) -> Option<OpenLog>

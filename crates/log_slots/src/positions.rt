@@ -1,13 +1,13 @@
 //! How far the log of a slot has come, and those that read it or report on it.
 
-ghost use Rattle.any_log.specs.Progress.{consumed_held};
 ghost use Rattle.frame_codec.specs.Datagram.{content};
 ghost use Rattle.log_slots.specs.Positions.{consumed_by, counted_as, is_limit, noted_if};
+ghost use Rattle.log_traffic.specs.Progress.{consumed_held};
 ghost use Rattle.std.specs.Prelude.{◌≡◌};
 
 use channel_uri::Address;
-use driver_steps::{Answer, OpenLog, Progress};
 use frame_codec::Packet;
+use log_steps::{Answer, OpenLog, Progress};
 use receiver_reports::Reports;
 
 /// How far a publication has come. Each position is in bytes of its stream.

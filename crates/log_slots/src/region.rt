@@ -1,11 +1,11 @@
-ghost use Rattle.any_log.specs.Held.{place_held};
 ghost use Rattle.log_arena.specs.Lease.{lease_bytes, lease_home, lease_len, lease_place};
 ghost use Rattle.log_arena.specs.Pages.{HasNoPlace, IsLeastPlace, marked};
+ghost use Rattle.log_traffic.specs.Held.{place_held};
 ghost use Rattle.std.specs.Prelude.{◌≡◌, ◌*◌, ◌/◌, ◌%◌, ◌<◌, false, true, IfNone, IfOk, IfSome, IsSome, OnErr, OnSome, replicate};
 
 use crate::naming::Naming;
-use driver_steps::OpenLog;
 use log_arena::{Arena, Lease, NoRoom};
+use log_steps::OpenLog;
 use std::marker::{Model, PhantomData};
 
 /// The region of memory in which the logs of one driver lie, which `N` names.

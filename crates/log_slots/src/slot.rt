@@ -1,17 +1,17 @@
-ghost use Rattle.any_log.specs.Held.{made_held, messages_held, place_held};
-ghost use Rattle.any_log.specs.Layout.{HasLayout};
-ghost use Rattle.any_log.specs.Whole.{HasWhole};
-ghost use Rattle.driver_steps.specs.declared.answer.Answer.TheVariants.{Gone, Offered as OfferedAs};
-ghost use Rattle.driver_steps.specs.declared.answer.Offered.TheVariants.{Closed};
-ghost use Rattle.driver_steps.specs.Decided.{decision_for, offer_decision, poll_decision};
-ghost use Rattle.driver_steps.specs.Moves.{for_source, offer_move, poll_move};
-ghost use Rattle.driver_steps.specs.Packets.{IsSoundContent, packet_move};
-ghost use Rattle.driver_steps.specs.Sending.{send_move};
+ghost use Rattle.log_steps.specs.declared.answer.Answer.TheVariants.{Gone, Offered as OfferedAs};
+ghost use Rattle.log_steps.specs.declared.answer.Offered.TheVariants.{Closed};
+ghost use Rattle.log_steps.specs.Decided.{decision_for, offer_decision, poll_decision};
+ghost use Rattle.log_steps.specs.Moves.{for_source, offer_move, poll_move};
+ghost use Rattle.log_steps.specs.Packets.{IsSoundContent, packet_move};
+ghost use Rattle.log_steps.specs.Sending.{send_move};
 ghost use Rattle.frame_codec.specs.Datagram.{content};
 ghost use Rattle.learnt_addresses.specs.Laws.{AreOrderly};
 ghost use Rattle.log_slots.specs.Counting.{IsCounted, IsFull, Passes, settled_of, taken_by};
 ghost use Rattle.log_slots.specs.Positions.{consumed_in, is_limit, noted_if, positions_in, reading_in};
 ghost use Rattle.log_slots.specs.Slots.{DecidesHeard, DecidesIn, GivesHeard, GivesIn, Hears, IsMadeFor, IsSlot, Moves, log_of, messages_in, packet_decision, reach_in, with_readers, without_log};
+ghost use Rattle.log_traffic.specs.Held.{made_held, messages_held, place_held};
+ghost use Rattle.log_traffic.specs.Layout.{HasLayout};
+ghost use Rattle.log_traffic.specs.Whole.{HasWhole};
 ghost use Rattle.std.specs.Prelude.{◌≡◌, ◌≢◌, ◌+◌, ◌^◌, ◌<◌, ◌≤◌, ◌⊎◌, [], length, None, Some, false, true, IfErr, IfNone, IfOk, IfSome, IsSome, MatchBool, OnErr, OnOk};
 
 use crate::amount::{Amount, AtEnd};
@@ -19,8 +19,8 @@ use crate::log_slot::{LogSlot, closed};
 use crate::naming::Naming;
 use crate::positions::{PublicationPositions, ReadingPositions, counted_as, is_limit, note_if};
 use driver_core::{Address, View};
-use driver_steps::{Answer, Asks, Offered, OpenLog, PacketRequest, Told};
 use frame_codec::Packet;
+use log_steps::{Answer, Answered, Asks, Offered, OpenLog, PacketRequest};
 use receiver_reports::Reports;
 use std::alloc::{AllocError, Global};
 use std::marker::Model;
@@ -108,7 +108,7 @@ impl<N: Naming> Slot<N> {
         client: u64,
         registration: u64,
         message: &[u8],
-    ) -> Told
+    ) -> Answered
         requires part { 0 < mine.old.parts }
         requires right { A.is_right asker.old (V.shows view.now) }
         ensures moved { Moves (offer_move (V.shows view.now) now client registration message.now) (OfferedAs Closed) self.old.kept.log self.new.kept.log result.answer }
@@ -149,7 +149,7 @@ impl<N: Naming> Slot<N> {
         subscription: u64,
         source: u64,
         limit: u32,
-    ) -> Result<Told, AllocError>
+    ) -> Result<Answered, AllocError>
         requires { A.is_right asker.old (V.shows view.now) }
         ensures moved { IfOk result (λ told. Moves (for_source source (poll_move (V.shows view.now) client subscription limit) Gone) Gone self.old.kept.log self.new.kept.log told.answer) }
         ensures decides { IfOk result (λ told. DecidesIn (decision_for source (poll_decision (V.shows view.now) client subscription)) self.old.kept.log told.decision) }
@@ -255,7 +255,7 @@ impl<N: Naming> Slot<N> {
         from: &Address,
         packet: Packet<'_>,
         request: &PacketRequest,
-    ) -> Result<Told, AllocError>
+    ) -> Result<Answered, AllocError>
         requires { IsSoundContent (content packet) }
         ensures moved { IfOk result (λ told. Hears (content packet.entry) (packet_move now from.now request.now (content packet.entry)) self.old.kept self.new.kept.log told.answer) }
         ensures decides { IfOk result (λ told. DecidesHeard (content packet.entry) (packet_decision request.now) self.old.kept told.decision) }

@@ -1,6 +1,6 @@
 -- A log that was just opened.
 use Rattle.std.specs.Prelude.{ℤ}
-use Rattle.driver_steps.specs.Held.{HeldLog}
+use Rattle.log_steps.specs.Held.{HeldLog}
 
 -- the log, and for which session and stream it is
 pub record Opened : Type 0 where

@@ -1,6 +1,6 @@
 // Whom an offer and a poll ask for their verdict: the registry itself, each time.
 use driver_core::{LogRequest, Registry};
-use driver_steps::Asks;
+use log_steps::Asks;
 
 #[derive(Drop)]
 pub(crate) struct Anew;

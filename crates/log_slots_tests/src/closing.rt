@@ -1,14 +1,14 @@
 // A step for a log that is closed finds nothing, whatever is open in its slot by then.
-ghost use Rattle.any_log.specs.Held.{place_held};
+ghost use Rattle.log_traffic.specs.Held.{place_held};
 ghost use Rattle.std.specs.Prelude.{◌≡◌, IfSome};
 
 use crate::asking::Anew;
 use crate::parts::Parts;
 use crate::registries::{CLIENT, FIRST, Numbers, REMOTE, SECOND};
 use driver_core::{Astray, Registry};
-use driver_steps::{Answer, Cause, Offered, OpenLog, PacketRequest};
 use frame_codec::{Flags, Packet, StatusMessage};
 use log_slots::{Naming, Slot};
+use log_steps::{Answer, Cause, Offered, OpenLog, PacketRequest};
 use std::alloc::Global;
 use std::sync::Wait;
 

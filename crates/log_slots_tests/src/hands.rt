@@ -5,8 +5,8 @@ ghost use Rattle.std.specs.Prelude.{◌≡◌, ◌<◌, ◌^◌, true, IfSome, M
 use crate::asking::Anew;
 use crate::registries::CLIENT;
 use driver_core::Registry;
-use driver_steps::{Answer, Offered, Told};
 use log_slots::{Amount, Naming, OfMessages, Slot};
+use log_steps::{Answer, Answered, Offered};
 use std::sync::ledger::Total;
 use std::sync::{Mutex, Wait};
 
@@ -28,7 +28,7 @@ fn is_taken(answer: &Answer) -> bool
 }
 
 // How many messages a log took that gave this answer.
-fn taken_by(told: &Told) -> u64
+fn taken_by(told: &Answered) -> u64
     ensures { result ≡ taken_by told.now.answer }
 {
     if is_taken(&told.answer) { 1 } else { 0 }

@@ -3,9 +3,9 @@ use crate::opening::{Fresh, opened};
 use crate::parts::Parts;
 use crate::registries::{FIRST, IMAGE, REMOTE, SECOND, SETUP};
 use driver_core::Registry;
-use driver_steps::{Answer, PacketRequest};
 use frame_codec::{Flags, Header, Kind, Packet, TermPlace};
 use log_slots::{LogSlot, Naming, Region};
+use log_steps::{Answer, PacketRequest};
 use std::alloc::Global;
 
 // A heartbeat of the publisher, which stands at the start.

@@ -4,11 +4,11 @@ ghost use Rattle.std.specs.Prelude.{IsTrue};
 
 use crate::registries::{LOCAL, REMOTE, SETUP};
 use driver_core::{Event, Registry};
-use driver_steps::OpenLog;
 use log_slots::{LogMemory, Naming, Region, memory_for, open_log};
+use log_steps::OpenLog;
 use std::alloc::Global;
 use std::marker::{Model, PhantomData};
-use stream_registry::{Measures, Origin, Source};
+use stream_registry::{LogRow, Measures, Origin};
 
 /// A log that was just opened, for whom it is.
 #[derive(Drop)]
@@ -20,9 +20,9 @@ pub(crate) struct Fresh<N: Naming> {
 }
 
 impl<N: Naming> Model for Fresh<N> {
-    ghost use Rattle.any_log.specs.Held.{made_held, messages_held, place_held};
     ghost use Rattle.log_slots.specs.Slots.{IsMadeFor};
     ghost use Rattle.log_slots_tests.specs.Opening.{Opened};
+    ghost use Rattle.log_traffic.specs.Held.{made_held, messages_held, place_held};
     ghost use Rattle.std.specs.Prelude.{◌≡◌};
 
     ghost Value = { Opened };
@@ -47,7 +47,7 @@ fn are_sizes(measures: &Measures) -> bool
 }
 
 // The memory for the log of a publication, or of the image that the SETUP brings.
-fn memory(alloc: Global, row: &Source) -> Option<LogMemory> {
+fn memory(alloc: Global, row: &LogRow) -> Option<LogMemory> {
     let event = match row.origin {
         Origin::Published { .. } => Event::Tick { now: 0 },
         Origin::Remote { .. } => Event::Setup {
@@ -61,7 +61,7 @@ fn memory(alloc: Global, row: &Source) -> Option<LogMemory> {
 }
 
 // Whether the log begins at position 0.
-fn begins(row: &Source) -> bool
+fn begins(row: &LogRow) -> bool
     requires { AreSizes row.now.measures }
     ensures { IsTrue result → BeginsSoundly row.now }
 {

@@ -3,11 +3,11 @@ use Rattle.std.proofs.Common.{◌≡◌, arith, ◌+◌, ◌<◌, ◌≤◌, ◌
 use Rattle.std.proofs.lemmas.List.{append-nil, take_all, take_more}
 use Rattle.std.proofs.lemmas.List.Elements.{All-append, All-cons, All-nil, filter_map-append}
 use Rattle.std.specs.Prelude.{filter_map}
-use Rattle.driver_core.specs.declared.event.End.{End}
-use Rattle.driver_core.specs.declared.event.Event.{Event}
-use Rattle.driver_core.specs.declared.event.Event.TheVariants.{Attach, Command, Reload, Setup, Tick}
+use Rattle.driver_core.specs.declared.state.event.End.{End}
+use Rattle.driver_core.specs.declared.state.event.Event.{Event}
+use Rattle.driver_core.specs.declared.state.event.Event.TheVariants.{Attach, Command, Reload, Setup, Tick}
 use Rattle.driver_core.specs.State.{State, at_moment}
-use Rattle.driver_steps.specs.Held.{HeldLog}
+use Rattle.log_steps.specs.Held.{HeldLog}
 use Rattle.log_arena.specs.Homes.{Home}
 use Rattle.log_slots.specs.Slots.{IsSlot, SlotLog, is_silent_by, log_of, reach_by, with_log, with_readers, without_log}
 use Rattle.media_agents.specs.declared.slots.LogAt.{LogAt}
@@ -17,7 +17,7 @@ use Rattle.media_agents.specs.Finding.{log_at}
 use Rattle.media_agents.proofs.ActLemmas.{goes_on, goes_on_as}
 use Rattle.media_agents.proofs.ChainLemmas.{chain_on}
 use Rattle.stream_registry.specs.declared.pairs.Pair.{Pair}
-use Rattle.stream_registry.specs.declared.row.Source.{Source}
+use Rattle.stream_registry.specs.declared.row.LogRow.{LogRow}
 use Rattle.stream_registry.specs.Origins.{is_published}
 
 -- what is said of each failure holds where that does
@@ -48,7 +48,7 @@ kind_leaves true at now limit answer accesses none = subst (All LeavesIt) (sym n
 kind_leaves false at now limit answer accesses asked =
     subst (All LeavesIt) (sym asked.1.held) (All-cons LeavesIt (held at asked.1.found asked.1.found) [] refl (All-nil LeavesIt))
 
-silence_leaves : (now limit : ℕ) (rows : List Source) (before after : List ℕ) (accesses : List Access)
+silence_leaves : (now limit : ℕ) (rows : List LogRow) (before after : List ℕ) (accesses : List Access)
     → Chain (Asks (SilenceOf now limit)) rows before after accesses → All LeavesIt accesses
 silence_leaves now limit [] before after accesses none = subst (All LeavesIt) (sym none.1) (All-nil LeavesIt)
 silence_leaves now limit (row ∷ rows) before after accesses (next, first, rest, is, asked, more) =
@@ -74,7 +74,7 @@ only_asked s event silent first last =
     goes_on_as (AreSilent s event silent) (All LeavesIt) first last (λ a asked. silent_leaves s event silent a asked)
 
 -- one more was asked, and there was no memory for its answer
-pub silence_ends : (now limit : ℕ) (rows : List Source) (silent : List ℕ) (row : Source) (answer : Option ℕ) (first between last : List Access → Type 0)
+pub silence_ends : (now limit : ℕ) (rows : List LogRow) (silent : List ℕ) (row : LogRow) (answer : Option ℕ) (first between last : List Access → Type 0)
     → GoesOn (Gathers (SilenceOf now limit) rows silent) first between → GoesOn (SilenceOf now limit row answer) between last
     → GoesOn (All LeavesIt) first last
 silence_ends now limit rows silent row answer first between last =
@@ -82,14 +82,14 @@ silence_ends now limit rows silent row answer first between last =
     (λ a b asked one. All-append LeavesIt a b (silence_leaves now limit rows [] silent a asked) (kind_leaves (is_published row) (log_at row) now limit answer b one))
 
 -- the images that are silent at a moment, once all rows were asked
-pub all_asked : (s : State) (now moment limit : ℕ) (rows : List Source) (n : ℕ) (silent : List ℕ) (first last : List Access → Type 0) →
+pub all_asked : (s : State) (now moment limit : ℕ) (rows : List LogRow) (n : ℕ) (silent : List ℕ) (first last : List Access → Type 0) →
     moment ≡ max s.moment now → limit ≡ s.settings.image_liveness → rows ≡ s.streams.sources → length rows ≤ n →
     GoesOn (Gathers (SilenceOf moment limit) (take n rows) silent) first last → GoesOn (AreSilentAt s now silent) first last
 unfolding at_moment
 all_asked s now moment limit rows n silent first last moment_is limit_is rows_are all asked =
     subst (λ (m : ℕ). GoesOn (Gathers (SilenceOf m s.settings.image_liveness) s.streams.sources silent) first last) moment_is
     (subst (λ (l : ℕ). GoesOn (Gathers (SilenceOf moment l) s.streams.sources silent) first last) limit_is
-    (subst (λ (those : List Source). GoesOn (Gathers (SilenceOf moment limit) those silent) first last) (take_all n rows all ∙ rows_are) asked))
+    (subst (λ (those : List LogRow). GoesOn (Gathers (SilenceOf moment limit) those silent) first last) (take_all n rows all ∙ rows_are) asked))
 
 -- ---- pairs that come
 

@@ -1,6 +1,6 @@
 -- Which status messages go out for the elicitations of a receiver.
 use Rattle.std.proofs.Common.{◌≡◌, ℕ, List, [], ◌∷◌, ◌++◌, Option, ap, ap₂, inl, inr, map, refl, subst, sym, ◌∙◌}
-use Rattle.driver_core.specs.declared.settings.Settings.{Settings}
+use Rattle.driver_core.specs.declared.state.settings.Settings.{Settings}
 use Rattle.driver_core.specs.State.{State}
 use Rattle.media_agents.specs.Acts.{Access, Act, Alone, GoesOn, Trail, lacked, looked}
 use Rattle.media_agents.specs.declared.eliciting.Elicitation.{Elicitation}

@@ -1,11 +1,11 @@
 -- Logs open and close, one after another, and what follows an entry.
 use Rattle.std.proofs.Common.{◌≡◌, ℕ, ℤ, Bool, List, Option, refl, subst}
-use Rattle.driver_core.specs.declared.entry.Entry.{Entry}
+use Rattle.driver_core.specs.declared.state.entry.Entry.{Entry}
 use Rattle.driver_core.specs.Pairs.{pairs_of}
 use Rattle.driver_core.specs.Readers.{readers_of}
 use Rattle.driver_core.specs.State.{State}
-use Rattle.driver_steps.specs.Held.{HeldLog}
-use Rattle.driver_steps.specs.Opening.{memory_of}
+use Rattle.log_steps.specs.Held.{HeldLog}
+use Rattle.log_steps.specs.Rooms.{memory_of}
 use Rattle.log_arena.specs.Homes.{Home}
 use Rattle.log_slots.specs.Opening.{OpensAs}
 use Rattle.media_agents.specs.Acts.{Access, GoesOn}
@@ -16,10 +16,10 @@ use Rattle.media_agents.specs.Following.{ClosesAt, Follows, Leaves, OpensNext, O
 use Rattle.media_agents.proofs.ActLemmas.{goes_on, goes_on_as}
 use Rattle.stream_registry.specs.declared.lingering.LogPlace.{LogPlace}
 use Rattle.stream_registry.specs.declared.pairs.Pair.{Pair}
-use Rattle.stream_registry.specs.declared.row.Source.{Source}
+use Rattle.stream_registry.specs.declared.row.LogRow.{LogRow}
 
 -- the slot took the log, and then it is read by those that the registry says
-pub puts : (s : State) (row : Source) (log : HeldLog) (at later : LogAt) (session stream : ℤ) (readers : List ℕ) (position : Option ℕ) (pages : List Bool)
+pub puts : (s : State) (row : LogRow) (log : HeldLog) (at later : LogAt) (session stream : ℤ) (readers : List ℕ) (position : Option ℕ) (pages : List Bool)
     (first between last : List Access → Type 0) → at ≡ log_at row → later ≡ log_at row → session ≡ row.session → stream ≡ row.stream
     → readers ≡ readers_of (pairs_of s) row.number
     → GoesOn (λ (accesses : List Access). Takes (IsAt at accesses) session stream log) first between
@@ -43,7 +43,7 @@ puts s row log at later session stream readers position pages first between last
     ) refl)
 
 -- the slot did not take it
-pub gives_back : (s : State) (row : Source) (log back : HeldLog) (at : LogAt) (old new : List Bool) (first last : List Access → Type 0) → at ≡ log_at row
+pub gives_back : (s : State) (row : LogRow) (log back : HeldLog) (at : LogAt) (old new : List Bool) (first last : List Access → Type 0) → at ≡ log_at row
     → (back ≡ log → new ≡ freed log old)
     → GoesOn (λ (accesses : List Access). Refuses (IsAt at accesses) log back) first last → GoesOn (Puts s row log old new) first last
 gives_back s row log back at old new first last at_is free =
@@ -55,7 +55,7 @@ gives_back s row log back at old new first last at_is free =
     }) (free refused.back_is))
 
 -- the log of a row opened
-pub opens_row : (home : Home) (s : State) (room : Option ℕ) (row : Source) (log : HeldLog) (old taken new : List Bool) (first last : List Access → Type 0)
+pub opens_row : (home : Home) (s : State) (room : Option ℕ) (row : LogRow) (log : HeldLog) (old taken new : List Bool) (first last : List Access → Type 0)
     → OpensAs home s.settings s.moment row log → taken ≡ taken_by row old → GoesOn (Puts s row log taken new) first last
     → GoesOn (OpensRow home s room row old new) first last
 opens_row home s room row log old taken new first last is taken_is =
@@ -69,7 +69,7 @@ closes_one at log old new first last free =
     goes_on_as (λ (accesses : List Access). Closes (IsAt at accesses) at.source log) (ClosesAt at old new) first last (λ a closes. (log, closes, free))
 
 -- that of a row closed
-pub row_closed : (row : Source) (at : LogAt) (log : Option HeldLog) (first last : List Access → Type 0) → at ≡ log_at row
+pub row_closed : (row : LogRow) (at : LogAt) (log : Option HeldLog) (first last : List Access → Type 0) → at ≡ log_at row
     → GoesOn (λ (accesses : List Access). Closes (IsAt at accesses) at.source log) first last → GoesOn (IsRowClosed row) first last
 row_closed row at log first last at_is =
     goes_on_as (λ (accesses : List Access). Closes (IsAt at accesses) at.source log) (IsRowClosed row) first last

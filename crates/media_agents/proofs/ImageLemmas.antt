@@ -6,9 +6,9 @@ use Rattle.std.specs.Prelude.{filter_map}
 use Rattle.media_agents.specs.declared.listing.ImageAt.{ImageAt}
 use Rattle.media_agents.specs.Finding.{image_in, with_image}
 use Rattle.media_agents.proofs.FindingLemmas.{take_again}
-use Rattle.stream_registry.specs.declared.row.Source.{Source}
+use Rattle.stream_registry.specs.declared.row.LogRow.{LogRow}
 
-joined : (before : List ImageAt) (one : Source) (image : Option ImageAt) → image_in one ≡ image
+joined : (before : List ImageAt) (one : LogRow) (image : Option ImageAt) → image_in one ≡ image
     → with_image image (take 512 before) ≡ take 512 (before ++ filter_map image_in (one ∷ []))
 joined before one None is =
     let none : filter_map image_in (one ∷ []) ≡ [] = rw is refl in
@@ -18,7 +18,7 @@ joined before one (Some image) is =
     take_again 512 before (image ∷ []) ∙ ap (λ (more : List ImageAt). take 512 (before ++ more)) (sym some)
 
 -- one row more
-pub images_more : (rows : List Source) (at : ℕ) (one : Source) (old new : List ImageAt) → at < length rows
+pub images_more : (rows : List LogRow) (at : ℕ) (one : LogRow) (old new : List ImageAt) → at < length rows
     → one ≡ get_or rows at one
     → old ≡ take 512 (filter_map image_in (take at rows))
     → new ≡ with_image (image_in one) old
@@ -27,7 +27,7 @@ images_more rows at one old new within is before added =
     let rest : List ImageAt = filter_map image_in (take at rows) in
     let whole : filter_map image_in (take (at + 1) rows) ≡ rest ++ filter_map image_in (one ∷ []) =
     ap (filter_map image_in) (take_more rows at one within)
-    ∙ ap (λ (last : Source). filter_map image_in (take at rows ++ last ∷ [])) (sym is)
+    ∙ ap (λ (last : LogRow). filter_map image_in (take at rows ++ last ∷ [])) (sym is)
     ∙ filter_map-append image_in (take at rows) (one ∷ []) in
     added
     ∙ ap (with_image (image_in one)) before

@@ -1,7 +1,7 @@
 -- The replies of an entry go out, one after another.
 use Rattle.std.proofs.Common.{◌<◌, ◌+◌, ℕ, List, [], ◌∷◌, ◌++◌, get_or, length, take, refl, subst, sym}
 use Rattle.std.proofs.lemmas.List.{take_more}
-use Rattle.driver_core.specs.declared.replies.Message.{Message}
+use Rattle.driver_core.specs.declared.state.replies.Message.{Message}
 use Rattle.media_agents.specs.declared.mail.ClientReply.TheVariants.{Of}
 use Rattle.media_agents.specs.Mails.{PostsEach, PostsTo, RingState}
 use Rattle.published_registry.specs.Histories.{Known}

@@ -2,32 +2,32 @@
 use Rattle.std.proofs.Common.{◌≡◌, ℕ, suc, arith, ◌==◌, Bool, true, false, cond, List, [], ◌∷◌, find, All, Option, Some, None, Result, Ok, Err, IfOk, IfSome, IsSome, Bor, subst, sym, ap, ◌∙◌, refl, ◌++◌}
 use Rattle.std.specs.Option.{option_copied}
 use Rattle.driver_core.specs.Conduct.{state_after}
-use Rattle.driver_core.specs.declared.entry.Entry.{Entry}
+use Rattle.driver_core.specs.declared.state.entry.Entry.{Entry}
 use Rattle.driver_core.specs.Renewal.{source_at}
 use Rattle.driver_core.specs.Soundness.{AreSizes, BeginsSoundly, IsSound}
 use Rattle.driver_core.specs.State.{State}
 use Rattle.logbook.specs.Pages.{Book}
 use Rattle.published_registry.specs.Histories.{History, history_in, registry_after, registry_of}
-use Rattle.stream_registry.specs.declared.row.Source.{Source}
+use Rattle.stream_registry.specs.declared.row.LogRow.{LogRow}
 
-found_by : (P : Source → Type 0) (b : Bool) (first row : Source) (rest : Option Source) → P first → (rest ≡ Some row → P row) →
+found_by : (P : LogRow → Type 0) (b : Bool) (first row : LogRow) (rest : Option LogRow) → P first → (rest ≡ Some row → P row) →
     cond b (Some first) rest ≡ Some row → P row
 found_by P true first row rest p later is = subst P (cc is) p
 found_by P false first row rest p later is = later is
 
-found : (P : Source → Type 0) (test : Source → Bool) (logs : List Source) (row : Source) → All P logs → find test logs ≡ Some row → P row
+found : (P : LogRow → Type 0) (test : LogRow → Bool) (logs : List LogRow) (row : LogRow) → All P logs → find test logs ≡ Some row → P row
 found P test [] row all is = absurd (cc is)
 found P test (first ∷ logs) row all is =
     found_by P (test first) first row (find test logs) (all 0 first (omega arith))
     (found P test logs row (λ k d within. all (suc k) d (omega arith))) is
 
-pub row_sound : (s : State) (number : ℕ) (row : Option (Bor Source)) → IsSound s → option_copied row ≡ source_at s.streams.sources number →
-    IfSome row (λ (log : Bor Source). AreSizes log.now.measures × BeginsSoundly log.now)
+pub row_sound : (s : State) (number : ℕ) (row : Option (Bor LogRow)) → IsSound s → option_copied row ≡ source_at s.streams.sources number →
+    IfSome row (λ (log : Bor LogRow). AreSizes log.now.measures × BeginsSoundly log.now)
 row_sound s number None sound is = tt
 row_sound s number (Some log) sound is =
     let here : source_at s.streams.sources number ≡ Some log.now = cc is in (
-      found (λ (l : Source). AreSizes l.measures) (λ (l : Source). l.number == number) s.streams.sources log.now sound.sizes here,
-      found BeginsSoundly (λ (l : Source). l.number == number) s.streams.sources log.now sound.begins here,
+      found (λ (l : LogRow). AreSizes l.measures) (λ (l : LogRow). l.number == number) s.streams.sources log.now sound.sizes here,
+      found BeginsSoundly (λ (l : LogRow). l.number == number) s.streams.sources log.now sound.begins here,
     )
 
 one_more : (s : State) (entries : List Entry) (entry : Entry) →

@@ -2,10 +2,10 @@
 use Rattle.std.proofs.Common.{◌≡◌, ℕ, Option, None, Some, subst}
 use Rattle.std.specs.Prelude.{⊤, IfNone, IfSome}
 use Rattle.channel_uri.specs.declared.address.Address.{Address}
-use Rattle.driver_steps.specs.declared.answer.Answer.TheVariants.{Gone, NoMemory}
-use Rattle.driver_steps.specs.declared.packets.PacketRequest.{PacketRequest}
-use Rattle.driver_steps.specs.Moves.{Move, WholeLog}
-use Rattle.driver_steps.specs.Packets.{packet_move}
+use Rattle.log_steps.specs.declared.answer.Answer.TheVariants.{Gone, NoMemory}
+use Rattle.log_steps.specs.declared.packets.PacketRequest.{PacketRequest}
+use Rattle.log_steps.specs.Moves.{Move, WholeLog}
+use Rattle.log_steps.specs.Packets.{packet_move}
 use Rattle.frame_codec.specs.Datagram.{Content}
 use Rattle.log_arena.specs.Homes.{Home}
 use Rattle.log_slots.specs.Slots.{DecidesHeard, GivesHeard, Hears, IsSlot, Moves, SlotLog, packet_decision}

@@ -3,14 +3,14 @@ use Rattle.std.proofs.Common.{◌≡◌, ℕ, ℤ, Bool, List, [], ◌∷◌, Op
 use Rattle.std.proofs.lemmas.List.Elements.{All-append, All-cons, All-nil}
 use Rattle.std.specs.Prelude.{⊤, Result, Ok, Err, IfSome}
 use Rattle.channel_uri.specs.declared.address.Address.{Address}
-use Rattle.driver_core.specs.declared.image_request.Astray.{Astray}
-use Rattle.driver_steps.specs.declared.answer.Answer.TheVariants.{Gone}
-use Rattle.driver_steps.specs.declared.packets.PacketRequest.{PacketRequest}
-use Rattle.driver_steps.specs.Held.{HeldLog}
-use Rattle.driver_steps.specs.Moves.{Move, WholeLog, for_source}
-use Rattle.driver_steps.specs.Packets.{packet_request}
-use Rattle.driver_steps.specs.Reporting.{image_move}
-use Rattle.driver_steps.specs.Sending.{send_move}
+use Rattle.driver_core.specs.declared.asked.image_request.Astray.{Astray}
+use Rattle.log_steps.specs.declared.answer.Answer.TheVariants.{Gone}
+use Rattle.log_steps.specs.declared.packets.PacketRequest.{PacketRequest}
+use Rattle.log_steps.specs.Held.{HeldLog}
+use Rattle.log_steps.specs.Moves.{Move, WholeLog, for_source}
+use Rattle.log_steps.specs.Packets.{packet_request}
+use Rattle.log_steps.specs.Reporting.{image_move}
+use Rattle.log_steps.specs.Sending.{send_move}
 use Rattle.frame_codec.specs.Datagram.{Content}
 use Rattle.log_arena.specs.Homes.{Home}
 use Rattle.log_slots.specs.Slots.{SlotLog, with_log, with_readers, without_log}

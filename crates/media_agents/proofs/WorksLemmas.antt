@@ -1,14 +1,14 @@
 -- What the conductor makes of an event.
 use Rattle.std.proofs.Common.{◌≡◌, List, [], Option, Some, Result, Ok, Err, IfOk, OnErr, OnOk, ℕ, ap, refl, subst, sym, ◌∙◌}
-use Rattle.driver_core.specs.declared.entry.Entry.{Entry}
-use Rattle.driver_core.specs.declared.event.End.{End}
+use Rattle.driver_core.specs.declared.state.entry.Entry.{Entry}
+use Rattle.driver_core.specs.declared.state.event.End.{End}
 use Rattle.driver_core.specs.Conduct.{outcome_of}
-use Rattle.driver_core.specs.declared.event.Event.{Event}
-use Rattle.driver_core.specs.declared.event.Inputs.{Inputs}
-use Rattle.driver_core.specs.declared.outcome.Outcome.{Outcome}
-use Rattle.driver_core.specs.declared.outcome.Response.{Response}
+use Rattle.driver_core.specs.declared.state.event.Event.{Event}
+use Rattle.driver_core.specs.declared.state.event.Inputs.{Inputs}
+use Rattle.driver_core.specs.declared.state.outcome.Outcome.{Outcome}
+use Rattle.driver_core.specs.declared.state.outcome.Response.{Response}
 use Rattle.driver_core.specs.State.{State}
-use Rattle.driver_steps.specs.Opening.{memory_of}
+use Rattle.log_steps.specs.Rooms.{memory_of}
 use Rattle.log_arena.specs.Homes.{Home}
 use Rattle.media_agents.proofs.ActLemmas.{goes_on, goes_then}
 use Rattle.media_agents.proofs.AskingLemmas.{joins_all}

@@ -2,7 +2,7 @@
 use Rattle.std.specs.Prelude.{◌≡◌, ◌++◌, ◌∷◌, ◌⊎◌, ℕ, List, [], map}
 use Rattle.channel_uri.specs.declared.address.Address.{Address}
 use Rattle.command_queue.specs.Sent.{Sent}
-use Rattle.driver_core.specs.declared.event.Event.{Event}
+use Rattle.driver_core.specs.declared.state.event.Event.{Event}
 use Rattle.driver_core.specs.State.{State}
 use Rattle.media_agents.specs.Acts.{Access, Act, Chain, GoesOn, lacked, looked, shared}
 use Rattle.media_agents.specs.declared.gate.Turn.{Turn}

@@ -1,9 +1,9 @@
 -- What the owner of a driver asks, and what the conductor answers. Own rules.
 use Rattle.std.specs.Prelude.{◌≡◌, List, [], ◌∷◌, ◌++◌, Option, Some, None}
-use Rattle.driver_core.specs.declared.entry.Entry.{Entry}
-use Rattle.driver_core.specs.declared.event.Event.{Event}
-use Rattle.driver_core.specs.declared.event.Event.TheVariants.{Attach, Command, Reload, Setup, Tick}
-use Rattle.driver_core.specs.declared.outcome.Response.{Response}
+use Rattle.driver_core.specs.declared.state.entry.Entry.{Entry}
+use Rattle.driver_core.specs.declared.state.event.Event.{Event}
+use Rattle.driver_core.specs.declared.state.event.Event.TheVariants.{Attach, Command, Reload, Setup, Tick}
+use Rattle.driver_core.specs.declared.state.outcome.Response.{Response}
 use Rattle.media_agents.specs.declared.answering.Question.{Question}
 use Rattle.media_agents.specs.declared.answering.Question.TheVariants as questions
 use Rattle.published_registry.specs.Histories.{Known}

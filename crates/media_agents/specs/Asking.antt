@@ -1,14 +1,14 @@
 -- What logs answer the conductor, each asked under the lock of its slot, one after another. Own rules.
 use Rattle.std.specs.Prelude.{◌≡◌, ℕ, ℤ, ◌++◌, Bool, true, false, List, [], ◌∷◌, Option, Some, None, Result, Ok, Err, filter_map, take}
 use Rattle.std.specs.Option.{option_map}
-use Rattle.driver_core.specs.declared.event.End.{End}
-use Rattle.driver_core.specs.declared.event.Event.{Event}
-use Rattle.driver_core.specs.declared.event.Event.TheVariants.{Attach, Command, Reload, Setup, Tick}
+use Rattle.driver_core.specs.declared.state.event.End.{End}
+use Rattle.driver_core.specs.declared.state.event.Event.{Event}
+use Rattle.driver_core.specs.declared.state.event.Event.TheVariants.{Attach, Command, Reload, Setup, Tick}
 use Rattle.driver_core.specs.Pairs.{pairs_of}
 use Rattle.driver_core.specs.Readers.{readers_of}
 use Rattle.driver_core.specs.Renewal.{source_at}
 use Rattle.driver_core.specs.State.{State, at_moment}
-use Rattle.driver_steps.specs.Held.{HeldLog}
+use Rattle.log_steps.specs.Held.{HeldLog}
 use Rattle.log_arena.specs.Homes.{Home}
 use Rattle.log_slots.specs.Slots.{IsSlot, SlotLog, is_silent_in, log_of, reach_in, with_log, with_readers, without_log}
 use Rattle.media_agents.specs.Acts.{Access, Chain, held}
@@ -16,7 +16,7 @@ use Rattle.media_agents.specs.declared.slots.LogAt.{LogAt}
 use Rattle.media_agents.specs.Finding.{log_at}
 use Rattle.stream_registry.specs.declared.pairs.Pair.{Pair}
 use Rattle.stream_registry.specs.declared.lingering.LogPlace.{LogPlace}
-use Rattle.stream_registry.specs.declared.row.Source.{Source}
+use Rattle.stream_registry.specs.declared.row.LogRow.{LogRow}
 use Rattle.stream_registry.specs.Origins.{is_published}
 
 -- a hold of a lock may have found this in the slot, and left that: both are slots of that region
@@ -98,7 +98,7 @@ SilenceOfKind true at now limit answer accesses = (answer ≡ None) × (accesses
 SilenceOfKind false at now limit answer accesses =
     (silent : Bool) × SaysSilent (IsAt at accesses) at.source now limit silent × (answer ≡ silent_number at.source silent)
 
-abbrev pub SilenceOf : ℕ → ℕ → Source → Option ℕ → List Access → Type 0
+abbrev pub SilenceOf : ℕ → ℕ → LogRow → Option ℕ → List Access → Type 0
 SilenceOf now limit row answer accesses = SilenceOfKind (is_published row) (log_at row) now limit answer accesses
 
 -- the images of a registry that are silent at that moment, each asked
@@ -123,7 +123,7 @@ abbrev pub end_at : ℕ → ℕ → End
 end_at source position = record { source = source; position = position }
 
 -- the log is joined by those that come, and the answer is how far it reaches, if it is there and open
-abbrev pub JoinsAt : State → List Pair → ℕ → Option Source → Option End → List Access → Type 0
+abbrev pub JoinsAt : State → List Pair → ℕ → Option LogRow → Option End → List Access → Type 0
 JoinsAt s come source None answer accesses = (answer ≡ None) × (accesses ≡ [])
 JoinsAt s come source (Some row) answer accesses =
     (position : Option ℕ) × Rejoins (IsAt (log_at row) accesses) row.number (readers_with s come source) position × (answer ≡ option_map (end_at source) position)
@@ -138,7 +138,7 @@ pub record JoinsSome (s : State) (come : List Pair) (accesses : List Access) : T
   pub joins : Gathers (Joins s come) (take count come) ends accesses
 
 -- the log is read by those that the registry says, if it is there
-abbrev pub SettlesAt : State → ℕ → Option Source → List Access → Type 0
+abbrev pub SettlesAt : State → ℕ → Option LogRow → List Access → Type 0
 SettlesAt s source None accesses = accesses ≡ []
 SettlesAt s source (Some row) accesses =
     (position : Option ℕ) × Rejoins (IsAt (log_at row) accesses) row.number (readers_of (pairs_of s) source) position
@@ -160,5 +160,5 @@ closing s closes = filter_map (closing_at s) closes
 abbrev pub IsClosed : LogAt → List Access → Type 0
 IsClosed at accesses = (log : Option HeldLog) × Closes (IsAt at accesses) at.source log
 
-abbrev pub IsRowClosed : Source → List Access → Type 0
+abbrev pub IsRowClosed : LogRow → List Access → Type 0
 IsRowClosed row accesses = IsClosed (log_at row) accesses

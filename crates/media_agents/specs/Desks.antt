@@ -1,7 +1,7 @@
 -- Where a question of a driver's owner is, until it is answered and the answer is taken. Own rules.
 use Rattle.std.specs.Prelude.{◌≡◌, ℕ, List, [], ◌∷◌, ◌++◌, Option, Some, None}
-use Rattle.driver_core.specs.declared.outcome.Response.{Response}
-use Rattle.driver_core.specs.declared.outcome.Response.TheVariants.{Attached}
+use Rattle.driver_core.specs.declared.state.outcome.Response.{Response}
+use Rattle.driver_core.specs.declared.state.outcome.Response.TheVariants.{Attached}
 use Rattle.media_agents.specs.Answering.{GivenAnswer}
 use Rattle.media_agents.specs.declared.answering.Question.{Question}
 use Rattle.media_agents.specs.Mails.{RingState, assigned}

@@ -10,11 +10,11 @@ use Rattle.driver_core.specs.State.{State}
 use Rattle.media_agents.specs.declared.listing.ImageAt.{ImageAt}
 use Rattle.media_agents.specs.declared.slots.LogAt.{LogAt}
 use Rattle.stream_registry.specs.Origins.{is_published, is_remote}
-use Rattle.stream_registry.specs.declared.row.Source.{Source}
+use Rattle.stream_registry.specs.declared.row.LogRow.{LogRow}
 use Rattle.stream_registry.specs.declared.row.Subscription.{Subscription}
 
 -- where the log of a row is
-abbrev pub log_at : Source → LogAt
+abbrev pub log_at : LogRow → LogAt
 log_at row = record { source = row.number; published = is_published row; slot = row.slot }
 
 -- where the logs of publications over datagrams are, in the order of their numbers, 256 at most
@@ -22,12 +22,12 @@ abbrev pub publications_of : State → List LogAt
 publications_of s = take 256 (map log_at (filter is_sent s.streams.sources))
 
 -- where the log of an image is, and at which address the image reads: the endpoint of its channel
-abbrev pub image_at : Source → Option Address → Option ImageAt
+abbrev pub image_at : LogRow → Option Address → Option ImageAt
 image_at row None = None
 image_at row (Some endpoint) = Some (record { log = log_at row; endpoint = endpoint })
 
 -- of a row that is an image
-abbrev pub image_in : Source → Option ImageAt
+abbrev pub image_in : LogRow → Option ImageAt
 image_in row = if is_remote row then image_at row (endpoint_of row.channel) else None
 
 -- an image joins others, if there is one, and there are fewer than 512
@@ -77,7 +77,7 @@ abbrev pub control_at : Option Spot → Option Address
 control_at (Some (AtControl text)) = address_of text
 control_at spot = None
 
-abbrev pub control_in : Source → Option Address
+abbrev pub control_in : LogRow → Option Address
 control_in row = if is_published row then control_at (spot_of row.channel) else None
 
 -- these are where the publications of a registry take datagrams

@@ -1,25 +1,25 @@
 -- What follows an entry: a log opens, the pairs go that it takes away, and logs close. Own rules.
 use Rattle.std.specs.Prelude.{◌≡◌, ℕ, ◌*◌, ◌/◌, Bool, true, false, List, [], All, Option, Some, None}
-use Rattle.any_log.specs.Held.{place_held}
 use Rattle.driver_core.specs.Conduct.{outcome_of}
-use Rattle.driver_core.specs.declared.entry.Entry.{Entry}
-use Rattle.driver_core.specs.declared.event.Event.{Event}
+use Rattle.driver_core.specs.declared.state.entry.Entry.{Entry}
+use Rattle.driver_core.specs.declared.state.event.Event.{Event}
 use Rattle.driver_core.specs.Pairs.{pairs_of}
 use Rattle.driver_core.specs.Readers.{readers_of}
 use Rattle.driver_core.specs.Renewal.{source_at}
 use Rattle.driver_core.specs.State.{State}
-use Rattle.driver_steps.specs.Held.{HeldLog}
-use Rattle.driver_steps.specs.Opening.{IsRoomFor, memory_of}
+use Rattle.log_steps.specs.Held.{HeldLog}
+use Rattle.log_steps.specs.Rooms.{IsRoomFor, memory_of}
 use Rattle.log_arena.specs.Homes.{Home}
 use Rattle.log_arena.specs.Pages.{IsLeastPlace, marked}
 use Rattle.log_slots.specs.Opening.{OpensAs}
+use Rattle.log_traffic.specs.Held.{place_held}
 use Rattle.media_agents.specs.Acts.{Access, Chain, Each, Then}
 use Rattle.media_agents.specs.Asking.{AreSilent, Closes, Gathers, IsAt, Joins, JoinsSome, LeavesIt, Refuses, Rejoins, Settles, Takes, closing}
 use Rattle.media_agents.specs.declared.slots.LogAt.{LogAt}
 use Rattle.media_agents.specs.Finding.{log_at}
 use Rattle.stream_registry.specs.declared.lingering.LogPlace.{LogPlace}
 use Rattle.stream_registry.specs.declared.pairs.Pair.{Pair}
-use Rattle.stream_registry.specs.declared.row.Source.{Source}
+use Rattle.stream_registry.specs.declared.row.LogRow.{LogRow}
 use Rattle.stream_registry.specs.LogPages.{log_pages}
 
 -- ---- what is asked before an entry is made
@@ -51,32 +51,32 @@ freed_if None pages = pages
 freed_if (Some held) pages = freed held pages
 
 -- those of a row's log have one
-abbrev pub taken_by : Source → List Bool → List Bool
+abbrev pub taken_by : LogRow → List Bool → List Bool
 taken_by row pages = marked true row.place (log_pages row) pages
 
 -- ---- the log opens that an event opens
 
 -- the log of that row is read by those that the registry says
-abbrev pub IsRead : State → Source → List Access → Type 0
+abbrev pub IsRead : State → LogRow → List Access → Type 0
 IsRead s row accesses = (position : Option ℕ) × Rejoins (IsAt (log_at row) accesses) row.number (readers_of (pairs_of s) row.number) position
 
 -- the slot of that row took the log
-abbrev pub IsPut : Source → HeldLog → List Access → Type 0
+abbrev pub IsPut : LogRow → HeldLog → List Access → Type 0
 IsPut row log accesses = Takes (IsAt (log_at row) accesses) row.session row.stream log
 
 -- the log is in its slot, and those read it that the registry says; or the slot did not take it, and its pages are free again
-pub data Puts (s : State) (row : Source) (log : HeldLog) (old new : List Bool) (accesses : List Access) : Type 0 where
+pub data Puts (s : State) (row : LogRow) (log : HeldLog) (old new : List Bool) (accesses : List Access) : Type 0 where
   put : Then (IsPut row log) (IsRead s row) accesses → new ≡ old → Puts s row log old new accesses
   gave_back : Refuses (IsAt (log_at row) accesses) log log → new ≡ freed log old → Puts s row log old new accesses
 
 -- the log of that row opened as it says; only where its place has no room, or the memory is not for it, nothing was done
-pub data OpensRow (home : Home) (s : State) (room : Option ℕ) (row : Source) (old new : List Bool) (accesses : List Access) : Type 0 where
+pub data OpensRow (home : Home) (s : State) (room : Option ℕ) (row : LogRow) (old new : List Bool) (accesses : List Access) : Type 0 where
   opened : (log : HeldLog) → OpensAs home s.settings s.moment row log → Puts s row log (taken_by row old) new accesses → OpensRow home s room row old new accesses
   without_room : (IsLeastPlace old (log_pages row) row.place → IsRoomFor room row row.origin → ⊥) → new ≡ old → accesses ≡ []
       → OpensRow home s room row old new accesses
 
 -- that of the source, if the registry has it
-abbrev pub OpensSource : Home → State → Option ℕ → Option Source → List Bool → List Bool → List Access → Type 0
+abbrev pub OpensSource : Home → State → Option ℕ → Option LogRow → List Bool → List Bool → List Access → Type 0
 OpensSource home s room None old new accesses = (new ≡ old) × (accesses ≡ [])
 OpensSource home s room (Some row) old new accesses = OpensRow home s room row old new accesses
 

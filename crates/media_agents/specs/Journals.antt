@@ -2,11 +2,11 @@
 use Rattle.std.specs.Prelude.{List, [], Option, Some, None, fold, length}
 use Rattle.audit_ring.specs.Audit.{KeptOf, kept_of, pushed}
 use Rattle.channel_uri.specs.declared.address.Address.{Address}
-use Rattle.driver_core.specs.declared.event.Event.{Event}
-use Rattle.driver_core.specs.declared.outcome.Response.{Response}
-use Rattle.driver_core.specs.declared.send_request.Outlet.{Outlet}
-use Rattle.driver_steps.specs.declared.answer.Answer.{Answer}
-use Rattle.driver_steps.specs.declared.answer.Answer.TheVariants as answers
+use Rattle.driver_core.specs.declared.state.event.Event.{Event}
+use Rattle.driver_core.specs.declared.state.outcome.Response.{Response}
+use Rattle.driver_core.specs.declared.asked.send_request.Outlet.{Outlet}
+use Rattle.log_steps.specs.declared.answer.Answer.{Answer}
+use Rattle.log_steps.specs.declared.answer.Answer.TheVariants as answers
 use Rattle.drop_tallies.specs.declared.miss.Miss.{Miss}
 use Rattle.drop_tallies.specs.Tallies.{none, noted}
 use Rattle.media_agents.specs.declared.journal.Dated.{Dated}

@@ -1,9 +1,9 @@
 -- Which entry a reply is of, and what a ring takes. Own rules.
 use Rattle.std.specs.Prelude.{◌≡◌, ◌≢◌, ◌≤◌, ℕ, ◌+◌, ◌-◌, ◌^◌, ◌⊎◌, List, [], ◌∷◌, ◌++◌, All, Contains, Option, Some, None, min, slice_get, slice_set}
-use Rattle.driver_core.specs.declared.entry.Entry.{Entry}
-use Rattle.driver_core.specs.declared.event.Event.{Event}
-use Rattle.driver_core.specs.declared.event.Event.TheVariants.{Attach, Command, Reload, Setup, Tick}
-use Rattle.driver_core.specs.declared.replies.Message.{Message}
+use Rattle.driver_core.specs.declared.state.entry.Entry.{Entry}
+use Rattle.driver_core.specs.declared.state.event.Event.{Event}
+use Rattle.driver_core.specs.declared.state.event.Event.TheVariants.{Attach, Command, Reload, Setup, Tick}
+use Rattle.driver_core.specs.declared.state.replies.Message.{Message}
 use Rattle.media_agents.specs.declared.mail.ClientReply.{ClientReply}
 use Rattle.media_agents.specs.declared.mail.ClientReply.TheVariants.{Of, NoMemory}
 use Rattle.media_agents.specs.Sharing.{Acknowledges, Acknowledging}

@@ -4,8 +4,8 @@ use Rattle.channel_uri.specs.declared.address.Address.{Address}
 use Rattle.command_queue.specs.declared.known.Facts.{Facts}
 use Rattle.command_queue.specs.Facts.{DidHold}
 use Rattle.command_queue.specs.Sent.{Sent}
-use Rattle.driver_core.specs.declared.event.Event.{Event}
-use Rattle.driver_core.specs.declared.event.Event.TheVariants.{Setup as SetUp}
+use Rattle.driver_core.specs.declared.state.event.Event.{Event}
+use Rattle.driver_core.specs.declared.state.event.Event.TheVariants.{Setup as SetUp}
 use Rattle.frame_codec.specs.declared.fault.BadPacket.{BadPacket}
 use Rattle.frame_codec.specs.declared.setup.Setup.{Setup}
 use Rattle.frame_codec.specs.Datagram.{Content, setup}

@@ -3,7 +3,7 @@ use Rattle.std.specs.Prelude.{◌≡◌, ◌≤◌, ◌+◌, ◌⊎◌, ◌++◌
 use Rattle.command_queue.specs.declared.known.Facts.{Facts}
 use Rattle.command_queue.specs.Facts.{WasFull}
 use Rattle.command_queue.specs.Sent.{Sent}
-use Rattle.driver_core.specs.declared.event.Event.{Event}
+use Rattle.driver_core.specs.declared.state.event.Event.{Event}
 
 -- what was sent of a client, and how much of that it knows the conductor to have acknowledged
 pub record Sharing : Type 0 where

@@ -1,18 +1,18 @@
 -- Steps that agents take on logs, each in one hold of the lock of its log, by the registry of one look. Own rules.
 use Rattle.std.specs.Prelude.{◌≡◌, ◌⊎◌, ℕ, List, [], ◌∷◌, Option, Some, None, Result, Ok, Err}
 use Rattle.channel_uri.specs.declared.address.Address.{Address}
-use Rattle.driver_core.specs.declared.image_request.Astray.{Astray}
-use Rattle.driver_core.specs.declared.image_request.Astray.TheVariants.{NoStream}
+use Rattle.driver_core.specs.declared.asked.image_request.Astray.{Astray}
+use Rattle.driver_core.specs.declared.asked.image_request.Astray.TheVariants.{NoStream}
 use Rattle.driver_core.specs.Renewal.{source_at}
 use Rattle.driver_core.specs.State.{State}
-use Rattle.driver_steps.specs.declared.answer.Answer.TheVariants.{Dropped, Gone, NoMemory}
-use Rattle.driver_steps.specs.declared.cause.Cause.TheVariants.{Astray as IsAstray}
-use Rattle.driver_steps.specs.declared.packets.PacketRequest.{PacketRequest}
-use Rattle.driver_steps.specs.Held.{HeldLog}
-use Rattle.driver_steps.specs.Moves.{Move, WholeLog, for_source}
-use Rattle.driver_steps.specs.Packets.{packet_move, packet_request}
-use Rattle.driver_steps.specs.Reporting.{image_move}
-use Rattle.driver_steps.specs.Sending.{send_move}
+use Rattle.log_steps.specs.declared.answer.Answer.TheVariants.{Dropped, Gone, NoMemory}
+use Rattle.log_steps.specs.declared.cause.Cause.TheVariants.{Astray as IsAstray}
+use Rattle.log_steps.specs.declared.packets.PacketRequest.{PacketRequest}
+use Rattle.log_steps.specs.Held.{HeldLog}
+use Rattle.log_steps.specs.Moves.{Move, WholeLog, for_source}
+use Rattle.log_steps.specs.Packets.{packet_move, packet_request}
+use Rattle.log_steps.specs.Reporting.{image_move}
+use Rattle.log_steps.specs.Sending.{send_move}
 use Rattle.frame_codec.specs.Datagram.{Content}
 use Rattle.log_arena.specs.Homes.{Home}
 use Rattle.log_slots.specs.Slots.{DecidesHeard, GivesHeard, Hears, Moves, SlotLog, packet_decision}
@@ -24,7 +24,7 @@ use Rattle.media_agents.specs.Asking.{IsHold}
 use Rattle.media_agents.specs.Finding.{log_at}
 use Rattle.media_agents.specs.Journals.{stamp_of}
 use Rattle.published_registry.specs.Histories.{History, IsContinuedBy, registry_of}
-use Rattle.stream_registry.specs.declared.row.Source.{Source}
+use Rattle.stream_registry.specs.declared.row.LogRow.{LogRow}
 
 -- ---- a look
 
@@ -98,7 +98,7 @@ HearsBy Held Strays now from content (Err why) stamp it = (it ≡ stray why stam
 HearsBy Held Strays now from content (Ok request) stamp it = TakesBy Held now from content request stamp it
 
 -- where the log is that a registry asks for
-abbrev pub place_in : Option Source → Result LogAt Astray
+abbrev pub place_in : Option LogRow → Result LogAt Astray
 place_in None = Err NoStream
 place_in (Some row) = Ok (log_at row)
 

@@ -1,18 +1,18 @@
 -- What is counted: as what a datagram that was dropped, and what each step leaves in the tallies. Own rules.
 use Rattle.std.specs.Prelude.{◌+◌, ◌-◌, ◌^◌, ℕ, Bool, true, false, List, [], ◌∷◌, Option, Some, None, Result, Ok, fold, if◌then◌else◌, length, min}
 use Rattle.channel_uri.specs.declared.address.Address.{Address}
-use Rattle.driver_core.specs.declared.event.Event.{Event}
-use Rattle.driver_core.specs.declared.event.Event.TheVariants.{Setup as SetUp}
-use Rattle.driver_core.specs.declared.image_request.Astray.TheVariants as strays
-use Rattle.driver_core.specs.declared.outcome.Response.{Response}
-use Rattle.driver_core.specs.declared.send_request.Outlet.{Outlet}
-use Rattle.driver_core.specs.declared.outcome.Response.TheVariants as responses
-use Rattle.driver_core.specs.declared.setup_fault.SetupFault.{SetupFault}
-use Rattle.driver_core.specs.declared.setup_fault.SetupFault.TheVariants as faults
-use Rattle.driver_steps.specs.declared.answer.Answer.{Answer}
-use Rattle.driver_steps.specs.declared.answer.Answer.TheVariants as answers
-use Rattle.driver_steps.specs.declared.cause.Cause.{Cause}
-use Rattle.driver_steps.specs.declared.cause.Cause.TheVariants as causes
+use Rattle.driver_core.specs.declared.state.event.Event.{Event}
+use Rattle.driver_core.specs.declared.state.event.Event.TheVariants.{Setup as SetUp}
+use Rattle.driver_core.specs.declared.asked.image_request.Astray.TheVariants as strays
+use Rattle.driver_core.specs.declared.state.outcome.Response.{Response}
+use Rattle.driver_core.specs.declared.asked.send_request.Outlet.{Outlet}
+use Rattle.driver_core.specs.declared.state.outcome.Response.TheVariants as responses
+use Rattle.driver_core.specs.declared.state.setup_fault.SetupFault.{SetupFault}
+use Rattle.driver_core.specs.declared.state.setup_fault.SetupFault.TheVariants as faults
+use Rattle.log_steps.specs.declared.answer.Answer.{Answer}
+use Rattle.log_steps.specs.declared.answer.Answer.TheVariants as answers
+use Rattle.log_steps.specs.declared.cause.Cause.{Cause}
+use Rattle.log_steps.specs.declared.cause.Cause.TheVariants as causes
 use Rattle.drop_tallies.specs.declared.miss.Miss.{Miss}
 use Rattle.drop_tallies.specs.declared.miss.Miss.TheVariants as misses
 use Rattle.drop_tallies.specs.declared.tally.Tally.{Tally}

@@ -1,10 +1,10 @@
 -- What an agent's turn does, act by act, and what comes of each. Own rules.
 use Rattle.std.specs.Prelude.{◌≡◌, ℕ, ◌<◌, ◌⊎◌, Bool, true, false, List, [], ◌∷◌, ◌++◌, Option, Some, None, Result, Ok, Err, All, filter, length, map, take}
 use Rattle.channel_uri.specs.declared.address.Address.{Address}
-use Rattle.driver_core.specs.declared.event.Event.TheVariants.{Setup as SetUp}
-use Rattle.driver_core.specs.declared.send_request.Outlet.{Outlet}
-use Rattle.driver_steps.specs.declared.answer.Answer.{Answer}
-use Rattle.driver_steps.specs.declared.answer.Answer.TheVariants.{Reported, Resent, Sent as Cut}
+use Rattle.driver_core.specs.declared.state.event.Event.TheVariants.{Setup as SetUp}
+use Rattle.driver_core.specs.declared.asked.send_request.Outlet.{Outlet}
+use Rattle.log_steps.specs.declared.answer.Answer.{Answer}
+use Rattle.log_steps.specs.declared.answer.Answer.TheVariants.{Reported, Resent, Sent as Cut}
 use Rattle.drop_tallies.specs.declared.miss.Miss.{Miss}
 use Rattle.drop_tallies.specs.declared.miss.Miss.TheVariants.{QueueFull, Unheard, Unread, Unsent}
 use Rattle.frame_codec.specs.declared.fault.BadPacket.{BadPacket}

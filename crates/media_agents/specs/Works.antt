@@ -3,10 +3,10 @@ use Rattle.std.specs.Prelude.{◌≡◌, ℕ, Bool, List, [], ◌∷◌, ◌++�
 use Rattle.command_codec.specs.Command.{correlation_of}
 use Rattle.command_queue.specs.declared.known.Facts.{Facts}
 use Rattle.command_queue.specs.Taken.{Taken}
-use Rattle.driver_core.specs.declared.entry.Entry.{Entry}
-use Rattle.driver_core.specs.declared.event.Event.{Event}
-use Rattle.driver_core.specs.declared.event.Event.TheVariants.{Attach, Command, Reload, Setup, Tick}
-use Rattle.driver_core.specs.declared.outcome.Response.{Response}
+use Rattle.driver_core.specs.declared.state.entry.Entry.{Entry}
+use Rattle.driver_core.specs.declared.state.event.Event.{Event}
+use Rattle.driver_core.specs.declared.state.event.Event.TheVariants.{Attach, Command, Reload, Setup, Tick}
+use Rattle.driver_core.specs.declared.state.outcome.Response.{Response}
 use Rattle.log_arena.specs.Homes.{Home}
 use Rattle.media_agents.specs.Acts.{Access, GoesOn, Writes}
 use Rattle.media_agents.specs.Answering.{question_in}

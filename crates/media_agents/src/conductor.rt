@@ -1,7 +1,7 @@
 //! The conductor's turn.
 
 ghost use Rattle.command_queue.specs.Facts.{were_taken};
-ghost use Rattle.driver_core.specs.declared.event.Event.TheVariants.{Tick};
+ghost use Rattle.driver_core.specs.declared.state.event.Event.TheVariants.{Tick};
 ghost use Rattle.media_agents.specs.Acts.{Each, GoesOn};
 ghost use Rattle.media_agents.specs.Asking.{IsRowClosed};
 ghost use Rattle.media_agents.specs.Turns.{Turned};

@@ -15,8 +15,8 @@ use crate::slots::LogAt;
 use crate::stepping::{Stepped, Stepping, strayed};
 use channel_uri::Address;
 use driver_core::{Astray, View};
-use driver_steps::packet_request;
 use frame_codec::Packet;
+use log_steps::packet_request;
 use published_registry::{Look, Pass};
 use rows::Rows;
 

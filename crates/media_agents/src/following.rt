@@ -1,11 +1,11 @@
 //! The logs follow an entry: one may open before anybody is shown the registry that has it, pairs go and logs close after.
 
-ghost use Rattle.any_log.specs.Held.{place_held};
 ghost use Rattle.driver_core.specs.Pairs.{pairs_of};
 ghost use Rattle.driver_core.specs.Readers.{readers_of};
 ghost use Rattle.driver_core.specs.Renewal.{source_at};
 ghost use Rattle.driver_core.specs.Soundness.{AreSizes, BeginsSoundly, IsSound};
 ghost use Rattle.log_slots.specs.Opening.{OpensAs, room_of};
+ghost use Rattle.log_traffic.specs.Held.{place_held};
 ghost use Rattle.media_agents.specs.Acts.{Each, GoesOn};
 ghost use Rattle.media_agents.specs.Asking.{IsRowClosed};
 ghost use Rattle.media_agents.specs.Following.{ClosesEach, Leaves, OpensAt, OpensNext, OpensRow, Puts, freed_if};
@@ -16,14 +16,14 @@ use crate::aftermath::Aftermath;
 use crate::pairing::settle;
 use crate::slots::{LogAt, Logs};
 use driver_core::Registry;
-use driver_steps::OpenLog;
 use log_slots::{LogMemory, Naming, Region, open_log};
+use log_steps::OpenLog;
 use rows::Rows;
 use std::sync::Wait;
-use stream_registry::{LogPlace, Source};
+use stream_registry::{LogPlace, LogRow};
 
 /// The row of a live log, whose sizes are sound.
-fn row_of(registry: &Registry, place: LogPlace) -> Option<&Source>
+fn row_of(registry: &Registry, place: LogPlace) -> Option<&LogRow>
     requires { IsSound registry.now }
     ensures sound { IfSome result (λ row. AreSizes row.now.measures × BeginsSoundly row.now) }
     ensures row { option_copied result ≡ source_at registry.now.streams.sources place.source }
@@ -39,7 +39,7 @@ fn put<N: Naming, L: Logs<N>, R: Wait>(
     logs: &mut L,
     registry: &Registry,
     room: &mut Rows<u64, 512>,
-    row: &Source,
+    row: &LogRow,
     log: OpenLog,
 )
     requires few { length (readers_of (pairs_of registry.now) row.now.number) ≤ 512 }
@@ -63,7 +63,7 @@ fn open_row<N: Naming, L: Logs<N>, R: Wait>(
     registry: &Registry,
     room: &mut Rows<u64, 512>,
     memory: LogMemory,
-    row: &Source,
+    row: &LogRow,
 )
     requires sizes { AreSizes row.now.measures }
     requires begins { BeginsSoundly row.now }

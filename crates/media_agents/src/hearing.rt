@@ -1,7 +1,7 @@
 //! One datagram, and the log that it is for.
 
-ghost use Rattle.driver_steps.specs.Packets.{IsSoundContent};
-ghost use Rattle.driver_core.specs.declared.event.Event.TheVariants.{Setup as SetUp};
+ghost use Rattle.log_steps.specs.Packets.{IsSoundContent};
+ghost use Rattle.driver_core.specs.declared.state.event.Event.TheVariants.{Setup as SetUp};
 ghost use Rattle.frame_codec.specs.Datagram.{content, packet_of};
 ghost use Rattle.media_agents.specs.Acts.{GoesOn, Trail};
 ghost use Rattle.published_registry.specs.Histories.{IsContinuedBy};

@@ -8,7 +8,7 @@ use crate::slots::LogAt;
 use channel_uri::{Address, Media, Place, address_of};
 use driver_core::Registry;
 use rows::Rows;
-use stream_registry::{Source, Subscription};
+use stream_registry::{LogRow, Subscription};
 
 /// An image: where its log is, and the address at which it reads.
 #[derive(Clone, Copy, Debug, PartialEq, Eq)]
@@ -28,7 +28,7 @@ pub(crate) fn add<T: Drop, const N: usize>(rows: &mut Rows<T, N>, one: T)
 }
 
 /// The log of a row joins the others, if it is that of a publication over datagrams.
-fn add_publication(row: &Source, logs: &mut Rows<LogAt, 256>)
+fn add_publication(row: &LogRow, logs: &mut Rows<LogAt, 256>)
     ensures { logs.new ≡ (if is_sent row.now then take 256 (logs.old ++ log_at row.now ∷ []) else logs.old) }
 {
     if row.is_published() && row.channel.media() == Media::Udp {
@@ -37,7 +37,7 @@ fn add_publication(row: &Source, logs: &mut Rows<LogAt, 256>)
 }
 
 /// The image that a row is, if it is one.
-fn image_in(row: &Source) -> Option<ImageAt>
+fn image_in(row: &LogRow) -> Option<ImageAt>
     ensures { result ≡ image_in row.now }
 {
     if row.is_published() {
@@ -51,7 +51,7 @@ fn image_in(row: &Source) -> Option<ImageAt>
 }
 
 /// The image that a row is joins the others, if it is one.
-fn add_image(row: &Source, images: &mut Rows<ImageAt, 512>)
+fn add_image(row: &LogRow, images: &mut Rows<ImageAt, 512>)
     ensures { images.new ≡ with_image (image_in row.now) images.old }
 {
     match image_in(row) {
@@ -131,7 +131,7 @@ pub(crate) fn list_endpoints(registry: &Registry, endpoints: &mut Rows<Address, 
 }
 
 /// Where a publication takes datagrams, which learns there where its own go.
-fn control_of(row: &Source) -> Option<Address>
+fn control_of(row: &LogRow) -> Option<Address>
     ensures { result ≡ control_in row.now }
 {
     if !row.is_published() {
@@ -144,7 +144,7 @@ fn control_of(row: &Source) -> Option<Address>
 }
 
 /// Where a publication takes datagrams joins the others.
-fn add_control_of(row: &Source, controls: &mut Rows<Address, 512>)
+fn add_control_of(row: &LogRow, controls: &mut Rows<Address, 512>)
     ensures { AddsIf (control_in row.now) controls.old controls.new }
 {
     match control_of(row) {

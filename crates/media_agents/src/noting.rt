@@ -11,7 +11,7 @@ use crate::tallying::{count_answer, count_cut, count_event, count_report};
 use audit_ring::AuditOf;
 use channel_uri::Address;
 use driver_core::{Event, Outlet, Response};
-use driver_steps::Answer;
+use log_steps::Answer;
 use policy_core::Decision;
 use std::sync::Wait;
 

@@ -2,7 +2,7 @@
 
 ghost use Rattle.command_queue.specs.declared.known.Facts.{Facts};
 ghost use Rattle.command_queue.specs.Facts.{DidHold, WasFull};
-ghost use Rattle.driver_core.specs.declared.event.Event.{Event as Happening};
+ghost use Rattle.driver_core.specs.declared.state.event.Event.{Event as Happening};
 ghost use Rattle.std.specs.Prelude.{◌≡◌, ◌≤◌, ◌++◌, ◌∷◌, [], MatchResult, OnErr};
 
 use command_queue::{Known, Refused, Sender};
@@ -24,7 +24,7 @@ pub struct EventSender {
 impl Model for EventSender {
     ghost use Rattle.command_queue.specs.Known.{IsKnown};
     ghost use Rattle.command_queue.specs.Sent.{Sent};
-    ghost use Rattle.driver_core.specs.declared.event.Event.{Event as Happening};
+    ghost use Rattle.driver_core.specs.declared.state.event.Event.{Event as Happening};
 
     ghost Value = { Sent Happening };
 

@@ -19,7 +19,7 @@ use crate::set_ups::SetUps;
 use crate::stepping::Stepping;
 use crate::telling::tell;
 use channel_uri::Address;
-use driver_steps::Answer;
+use log_steps::Answer;
 use media_wire::Wire;
 use published_registry::Pass;
 use rows::Rows;

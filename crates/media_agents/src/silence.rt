@@ -10,13 +10,13 @@ use driver_core::{Event, Registry};
 use log_slots::Naming;
 use std::alloc::{AllocError, Global};
 use std::sync::Wait;
-use stream_registry::Source;
+use stream_registry::LogRow;
 
 /// The number of the row's log, if it is that of an image which is silent: it is asked under its lock.
 fn silent_one<N: Naming, L: Logs<N>, R: Wait>(
     rt: &R,
     logs: &mut L,
-    row: &Source,
+    row: &LogRow,
     moment: u64,
     limit: u64,
 ) -> Option<u64>

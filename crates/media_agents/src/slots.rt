@@ -1,5 +1,5 @@
-ghost use Rattle.any_log.specs.Held.{made_held, messages_held, place_held};
 ghost use Rattle.log_slots.specs.Slots.{IsMadeFor, SlotLog};
+ghost use Rattle.log_traffic.specs.Held.{made_held, messages_held, place_held};
 ghost use Rattle.media_agents.specs.Acts.{Access, GoesOn};
 ghost use Rattle.media_agents.specs.Asking.{Closes, IsAt, IsHold, Opens, Rejoins, SaysSilent};
 ghost use Rattle.media_agents.specs.Finding.{log_at};
@@ -7,10 +7,10 @@ ghost use Rattle.std.specs.Prelude.{◌≡◌, ◌≤◌, List, length, IfErr, I
 
 use crate::journal::Journal;
 use crate::unopened::Unopened;
-use driver_steps::OpenLog;
 use log_slots::{Held, LogSlot, Naming, Slot};
+use log_steps::OpenLog;
 use std::sync::{Mutex, Wait};
-use stream_registry::Source;
+use stream_registry::LogRow;
 
 /// Which log, and which lock guards it.
 #[derive(Clone, Copy, Debug, PartialEq, Eq)]
@@ -23,7 +23,7 @@ pub struct LogAt {
 
 impl LogAt {
     /// As the row says.
-    pub fn of(row: &Source) -> LogAt
+    pub fn of(row: &LogRow) -> LogAt
         ensures { result ≡ log_at row.now }
     {
         LogAt {

@@ -1,7 +1,7 @@
 //! Steps on logs: each in one hold of the lock of its log, with one look within it.
 
-ghost use Rattle.driver_steps.specs.declared.answer.Answer.TheVariants.{NoMemory};
-ghost use Rattle.driver_steps.specs.Packets.{IsSoundContent, packet_request};
+ghost use Rattle.log_steps.specs.declared.answer.Answer.TheVariants.{NoMemory};
+ghost use Rattle.log_steps.specs.Packets.{IsSoundContent, packet_request};
 ghost use Rattle.frame_codec.specs.Datagram.{content};
 ghost use Rattle.media_agents.specs.Acts.{Access, GoesOn, Writes};
 ghost use Rattle.media_agents.specs.Asking.{IsHold};
@@ -14,10 +14,10 @@ use crate::journal::Stamp;
 use crate::slots::{LogAt, Slots};
 use channel_uri::Address;
 use driver_core::Astray;
-use driver_steps::{Answer, Cause, PacketRequest, Told, packet_request};
 use drop_tallies::Miss;
 use frame_codec::Packet;
 use log_slots::{Held, LogSlot, Naming, Slot, lock_soon};
+use log_steps::{Answer, Answered, Cause, PacketRequest, packet_request};
 use policy_core::Decision;
 use published_registry::{Look, Pass};
 use std::alloc::Global;
@@ -35,7 +35,7 @@ pub struct Stepped {
 
 impl Stepped {
     /// What came of a step, by that registry.
-    pub fn of(told: Told, stamp: Stamp) -> Stepped
+    pub fn of(told: Answered, stamp: Stamp) -> Stepped
         ensures { result ≡ record { answer = told.answer; decision = told.decision; stamp = stamp } }
     {
         Stepped {

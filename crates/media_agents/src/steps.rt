@@ -1,6 +1,6 @@
 //! An agent's steps on the logs and the journal of a driver.
 
-ghost use Rattle.driver_steps.specs.Packets.{IsSoundContent};
+ghost use Rattle.log_steps.specs.Packets.{IsSoundContent};
 ghost use Rattle.frame_codec.specs.Datagram.{content};
 ghost use Rattle.media_agents.specs.Stepping.{IsOf};
 ghost use Rattle.std.specs.Prelude.{◌≡◌, All};
@@ -14,10 +14,10 @@ use crate::tallying::{is_asking, is_counted};
 use crate::unopened::{Unopened, open_in};
 use channel_uri::Address;
 use driver_core::{Event, Response};
-use driver_steps::OpenLog;
 use drop_tallies::Miss;
 use frame_codec::Packet;
 use log_slots::{Naming, lock_soon};
+use log_steps::OpenLog;
 use policy_core::Decision;
 use published_registry::{Look, Pass};
 use std::alloc::Global;

@@ -7,9 +7,9 @@ ghost use Rattle.std.specs.Prelude.{◌≡◌, fold, MatchBool, ⊤};
 
 use channel_uri::Address;
 use driver_core::{Astray, Event, Outlet, Response, SetupFault};
-use driver_steps::{Answer, Cause};
 use drop_tallies::{Miss, Tallies};
 use frame_codec::{Datagram, Packet};
+use log_steps::{Answer, Cause};
 use policy_core::Verdict;
 
 /// As what a cause is counted, and by which verdict.

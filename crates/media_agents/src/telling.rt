@@ -9,8 +9,8 @@ use crate::stepping::Stepping;
 use byte_strings::Bytes;
 use channel_uri::Address;
 use driver_core::Outlet;
-use driver_steps::Answer;
 use drop_tallies::Miss;
+use log_steps::Answer;
 use media_wire::Wire;
 use std::sync::Wait;
 

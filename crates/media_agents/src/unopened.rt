@@ -1,13 +1,13 @@
 //! A log that opens in a slot, or comes back.
 
-ghost use Rattle.any_log.specs.Held.{made_held, messages_held, place_held};
 ghost use Rattle.log_slots.specs.Slots.{IsMadeFor};
+ghost use Rattle.log_traffic.specs.Held.{made_held, messages_held, place_held};
 ghost use Rattle.media_agents.specs.Asking.{IsHold, Opens};
 ghost use Rattle.std.specs.Prelude.{◌≡◌, ◌≤◌, length};
 
 use crate::slots::{LogAt, Slots};
-use driver_steps::OpenLog;
 use log_slots::{Held, Naming};
+use log_steps::OpenLog;
 use std::marker::Model;
 
 /// A log that did not open, and comes back: its slot did not take it, or there is no such slot.
@@ -17,7 +17,7 @@ pub struct Unopened {
 }
 
 impl Model for Unopened {
-    ghost use Rattle.driver_steps.specs.Held.{HeldLog};
+    ghost use Rattle.log_steps.specs.Held.{HeldLog};
 
     ghost Value = { HeldLog };
 

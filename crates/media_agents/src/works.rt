@@ -2,7 +2,7 @@
 
 ghost use Rattle.driver_core.specs.Conduct.{state_after};
 ghost use Rattle.driver_core.specs.Soundness.{IsSound};
-ghost use Rattle.driver_steps.specs.Opening.{memory_of};
+ghost use Rattle.log_steps.specs.Rooms.{memory_of};
 ghost use Rattle.log_slots.specs.Opening.{room_of};
 ghost use Rattle.media_agents.specs.Acts.{Each, GoesOn, Then, Writes};
 ghost use Rattle.media_agents.specs.Answering.{Answers, IsAnswer, question_in};

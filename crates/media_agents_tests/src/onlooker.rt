@@ -1,7 +1,7 @@
 // Who looks at what the agents did: at the registry, and at the logs behind their locks.
-ghost use Rattle.any_log.specs.Whole.{HasWhole};
 ghost use Rattle.log_slots.specs.Counting.{IsCounted};
 ghost use Rattle.log_slots.specs.Slots.{IsSlot};
+ghost use Rattle.log_traffic.specs.Whole.{HasWhole};
 ghost use Rattle.std.specs.Prelude.{IfSome};
 
 use crate::common::Common;

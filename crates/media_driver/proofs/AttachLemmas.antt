@@ -2,10 +2,10 @@
 use Rattle.std.proofs.Common.{◌≡◌, ℕ, ◌+◌, Option, Some, [], ◌∷◌, ◌++◌, ap, ap₂, subst, sym, ◌∙◌}
 use mathlib.Core.List.{IsPrefix}
 use Rattle.command_queue.specs.Sent.{Sent}
-use Rattle.driver_core.specs.declared.event.Event.{Event}
-use Rattle.driver_core.specs.declared.event.Event.TheVariants.{Attach, Command, Reload, Setup, Tick}
-use Rattle.driver_core.specs.declared.outcome.Response.{Response}
-use Rattle.driver_core.specs.declared.outcome.Response.TheVariants as responses
+use Rattle.driver_core.specs.declared.state.event.Event.{Event}
+use Rattle.driver_core.specs.declared.state.event.Event.TheVariants.{Attach, Command, Reload, Setup, Tick}
+use Rattle.driver_core.specs.declared.state.outcome.Response.{Response}
+use Rattle.driver_core.specs.declared.state.outcome.Response.TheVariants as responses
 use Rattle.media_agents.specs.Answering.{Answers, AnswersTo, IsAnswer, question_in}
 use Rattle.media_agents.specs.declared.answering.Question.{Question}
 use Rattle.media_agents.specs.declared.answering.Question.TheVariants as questions

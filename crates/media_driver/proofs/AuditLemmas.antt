@@ -1,8 +1,8 @@
 -- What a step reports to its client's audit.
 use Rattle.std.proofs.Common.{◌≡◌, Option, Some, None, IfSome, ap, inl, inr, refl, subst}
 use Rattle.audit_ring.specs.Audit.{KeptOf}
-use Rattle.driver_steps.specs.declared.answer.Answer.{Answer}
-use Rattle.driver_steps.specs.Moves.{Move, WholeLog}
+use Rattle.log_steps.specs.declared.answer.Answer.{Answer}
+use Rattle.log_steps.specs.Moves.{Move, WholeLog}
 use Rattle.log_arena.specs.Homes.{Home}
 use Rattle.media_agents.specs.declared.journal.Dated.{Dated}
 use Rattle.media_agents.specs.declared.journal.Stamp.{Stamp}

@@ -1,6 +1,6 @@
 -- What an offer is answered, and what it counts.
 use Rattle.std.proofs.Common.{◌≡◌, ℕ, ◌+◌, ◌⊎◌, true, Option, Some, None, Result, Ok, Err, IfSome, IfErr, subst, ap, ◌∙◌, ⊎_elim, inl, inr, arith}
-use Rattle.driver_steps.specs.declared.answer.Answer.{Answer}
+use Rattle.log_steps.specs.declared.answer.Answer.{Answer}
 use Rattle.log_slots.specs.Counting.{taken_by}
 use Rattle.media_driver.specs.Clients.{Attached}
 use Rattle.media_driver.specs.Steps.{Counts, offer_answer}

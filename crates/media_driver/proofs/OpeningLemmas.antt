@@ -4,16 +4,16 @@ use Rattle.std.proofs.lemmas.List.Elements.{All-append, All-cons, All-nil, All-p
 use Rattle.std.proofs.lemmas.Grind.{common_steps}
 use Rattle.command_queue.specs.Sent.{Sent, new_sender, new_senders}
 use Rattle.command_queue.specs.Taken.{Taken}
-use Rattle.driver_core.specs.declared.event.Event.{Event}
-use Rattle.driver_core.specs.declared.peer.Peer.{Peer}
-use Rattle.driver_core.specs.declared.settings.Settings.{Settings}
+use Rattle.driver_core.specs.declared.state.event.Event.{Event}
+use Rattle.driver_core.specs.declared.state.peer.Peer.{Peer}
+use Rattle.driver_core.specs.declared.state.settings.Settings.{Settings}
 use Rattle.driver_core.specs.Soundness.{AreSettings, AreSizes, BeginsSoundly, IsSound}
 use Rattle.driver_core.specs.State.{State, opened}
 use Rattle.logbook.specs.Pages.{Book}
 use Rattle.media_driver.specs.Parts.{AreFresh}
 use Rattle.policy_core.specs.RuleList.{Rules}
 use Rattle.published_registry.specs.Histories.{History, registry_after, registry_of}
-use Rattle.stream_registry.specs.declared.row.Source.{Source}
+use Rattle.stream_registry.specs.declared.row.LogRow.{LogRow}
 
 -- in a registry that was opened there is no log that could be unsound
 opened_sound : (settings : Settings) (policy : Rules) (peers : List Peer) → AreSettings settings →
@@ -21,7 +21,7 @@ opened_sound : (settings : Settings) (policy : Rules) (peers : List Peer) → Ar
 unfolding opened
 opened_sound settings policy peers sound = record {
   defaults = sound.sizes;
-  sizes = All-nil (λ (log : Source). AreSizes log.measures);
+  sizes = All-nil (λ (log : LogRow). AreSizes log.measures);
   numbered = omega arith;
   begins = All-nil BeginsSoundly;
   laid_out = record { within = search rules; apart = search rules };

@@ -1,9 +1,9 @@
 -- What a driver asks and answers as a client attaches. Own rules.
 use Rattle.std.specs.Prelude.{◌≡◌, ◌≤◌, ◌+◌, ◌⊎◌, ℕ, List}
 use mathlib.Core.List.{IsPrefix}
-use Rattle.driver_core.specs.declared.entry.Entry.{Entry}
-use Rattle.driver_core.specs.declared.event.Event.TheVariants.{Attach}
-use Rattle.driver_core.specs.declared.outcome.Response.TheVariants.{Attached}
+use Rattle.driver_core.specs.declared.state.entry.Entry.{Entry}
+use Rattle.driver_core.specs.declared.state.event.Event.TheVariants.{Attach}
+use Rattle.driver_core.specs.declared.state.outcome.Response.TheVariants.{Attached}
 use Rattle.media_agents.specs.Answering.{Answers}
 use Rattle.media_driver.specs.declared.faults.AttachFault.{AttachFault}
 use Rattle.media_driver.specs.declared.faults.AttachFault.TheVariants.{Full, Stopped, NoMemory}

@@ -2,14 +2,14 @@
 use Rattle.std.specs.Prelude.{◌≡◌, ◌⊎◌, ℕ, List, Option, Some, None, Result, Ok, Err}
 use Rattle.audit_ring.specs.Audit.{KeptOf}
 use Rattle.driver_core.specs.LeftOut.{left_out}
-use Rattle.driver_core.specs.declared.listing.Listed.{Listed}
-use Rattle.driver_core.specs.declared.listing.Shown.{Shown}
-use Rattle.driver_steps.specs.declared.answer.Answer.{Answer}
-use Rattle.driver_steps.specs.declared.answer.Answer.TheVariants.{Gone as IsGone, Offered as OfferedAs}
-use Rattle.driver_steps.specs.declared.answer.Offered.TheVariants as offered
-use Rattle.driver_steps.specs.Decided.{decision_for, offer_decision, poll_decision, shown_decision}
-use Rattle.driver_steps.specs.Held.{HeldLog}
-use Rattle.driver_steps.specs.Moves.{Move, WholeLog, offer_move}
+use Rattle.driver_core.specs.declared.asked.listing.Listed.{Listed}
+use Rattle.driver_core.specs.declared.asked.listing.Shown.{Shown}
+use Rattle.log_steps.specs.declared.answer.Answer.{Answer}
+use Rattle.log_steps.specs.declared.answer.Answer.TheVariants.{Gone as IsGone, Offered as OfferedAs}
+use Rattle.log_steps.specs.declared.answer.Offered.TheVariants as offered
+use Rattle.log_steps.specs.Decided.{decision_for, offer_decision, poll_decision, shown_decision}
+use Rattle.log_steps.specs.Held.{HeldLog}
+use Rattle.log_steps.specs.Moves.{Move, WholeLog, offer_move}
 use Rattle.log_arena.specs.Homes.{Home}
 use Rattle.log_pairs.specs.Polling.{Fetched}
 use Rattle.log_slots.specs.Slots.{DecidesIn, Moves, SlotLog}

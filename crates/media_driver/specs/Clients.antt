@@ -5,7 +5,7 @@ use Rattle.audit_ring.specs.Audit.{KeptOf}
 use Rattle.media_agents.specs.declared.journal.Dated.{Dated}
 use Rattle.command_codec.specs.Command.{command_bytes}
 use Rattle.command_codec.specs.declared.command.Body.{Body}
-use Rattle.driver_core.specs.declared.event.Event.TheVariants.{Command}
+use Rattle.driver_core.specs.declared.state.event.Event.TheVariants.{Command}
 use Rattle.media_agents.specs.Mails.{Posted}
 use Rattle.media_agents.specs.Sharing.{IsFull, Sends, SendsNone, Sharing}
 use Rattle.media_driver.specs.declared.faults.LookFault.{LookFault}

@@ -1,7 +1,7 @@
 -- What a driver is made of, and whether a name is that of these parts. Own rules.
 use Rattle.std.specs.Prelude.{◌≡◌, ◌++◌, ◌∷◌, ℕ, List, [], All}
 use Rattle.command_queue.specs.Sent.{Sent}
-use Rattle.driver_core.specs.declared.event.Event.{Event}
+use Rattle.driver_core.specs.declared.state.event.Event.{Event}
 use Rattle.driver_core.specs.State.{State}
 use Rattle.log_arena.specs.Homes.{Home}
 use Rattle.logbook.specs.Pages.{Book}

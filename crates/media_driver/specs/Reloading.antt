@@ -1,7 +1,7 @@
 -- What a driver asks and answers as a policy is put in force. Own rules.
 use Rattle.std.specs.Prelude.{◌≡◌, ◌⊎◌, ℕ, List, Ok, Err}
-use Rattle.driver_core.specs.declared.event.Event.TheVariants.{Reload}
-use Rattle.driver_core.specs.declared.outcome.Response.TheVariants.{PolicyInForce}
+use Rattle.driver_core.specs.declared.state.event.Event.TheVariants.{Reload}
+use Rattle.driver_core.specs.declared.state.outcome.Response.TheVariants.{PolicyInForce}
 use Rattle.media_agents.specs.Answering.{AnswersTo}
 use Rattle.media_agents.specs.declared.answering.Question.TheVariants as questions
 use Rattle.media_driver.specs.declared.faults.ReloadFault.{ReloadFault}

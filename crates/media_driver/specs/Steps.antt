@@ -2,16 +2,16 @@
 -- answer that the log is closed, that the subscription does not read it, or that there was no look, nothing is said: what a
 -- lock guards is known to whoever holds it, and a slot with no log answers so. Own rules.
 use Rattle.std.specs.Prelude.{◌≡◌, ℕ, ◌+◌, ◌⊎◌, true, List, Option, Some, None, Result, Ok, Err, IfSome}
-use Rattle.any_log.specs.Whole.{HasWhole}
 use Rattle.driver_core.specs.State.{State}
-use Rattle.driver_steps.specs.declared.answer.Answer.{Answer}
-use Rattle.driver_steps.specs.declared.answer.Answer.TheVariants.{Denied as IsDenied, Gone as IsGone, Offered as OfferedAs, Polled}
-use Rattle.driver_steps.specs.declared.answer.Offered.TheVariants as offered
-use Rattle.driver_steps.specs.Held.{HeldLog}
-use Rattle.driver_steps.specs.Moves.{Move, WholeLog, for_source, offer_move, poll_move}
+use Rattle.log_steps.specs.declared.answer.Answer.{Answer}
+use Rattle.log_steps.specs.declared.answer.Answer.TheVariants.{Denied as IsDenied, Gone as IsGone, Offered as OfferedAs, Polled}
+use Rattle.log_steps.specs.declared.answer.Offered.TheVariants as offered
+use Rattle.log_steps.specs.Held.{HeldLog}
+use Rattle.log_steps.specs.Moves.{Move, WholeLog, for_source, offer_move, poll_move}
 use Rattle.log_arena.specs.Homes.{Home}
 use Rattle.log_pairs.specs.Polling.{Fetched}
 use Rattle.log_slots.specs.Slots.{GivesIn, IsSlot, Moves, SlotLog}
+use Rattle.log_traffic.specs.Whole.{HasWhole}
 use Rattle.media_driver.specs.Clients.{Attached}
 use Rattle.media_driver.specs.declared.faults.OfferFault.{OfferFault}
 use Rattle.media_driver.specs.declared.faults.OfferFault.TheVariants as offers

@@ -1,6 +1,6 @@
 //! What was decided for a client and on the steps of a driver's agents is kept.
 
-ghost use Rattle.driver_steps.specs.Decided.{shown_decision};
+ghost use Rattle.log_steps.specs.Decided.{shown_decision};
 ghost use Rattle.media_agents.specs.declared.gate.Agent.TheVariants.{Receiver};
 ghost use Rattle.media_agents.specs.Journals.{audited_all, audited_if};
 ghost use Rattle.std.specs.Prelude.{◌≡◌, [], IfOk};

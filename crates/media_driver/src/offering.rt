@@ -2,10 +2,10 @@
 
 ghost use Rattle.audit_ring.specs.Audit.{KeptOf};
 ghost use Rattle.driver_core.specs.Cached.{AreCached};
-ghost use Rattle.driver_steps.specs.declared.answer.Answer.TheVariants.{Offered as OfferedAs};
-ghost use Rattle.driver_steps.specs.declared.answer.Offered.TheVariants.{Closed};
-ghost use Rattle.driver_steps.specs.Decided.{offer_decision};
-ghost use Rattle.driver_steps.specs.Moves.{offer_move};
+ghost use Rattle.log_steps.specs.declared.answer.Answer.TheVariants.{Offered as OfferedAs};
+ghost use Rattle.log_steps.specs.declared.answer.Offered.TheVariants.{Closed};
+ghost use Rattle.log_steps.specs.Decided.{offer_decision};
+ghost use Rattle.log_steps.specs.Moves.{offer_move};
 ghost use Rattle.log_slots.specs.Counting.{taken_by};
 ghost use Rattle.media_agents.specs.declared.journal.Dated.{Dated};
 ghost use Rattle.media_agents.specs.Journals.{stamp_of};
@@ -21,8 +21,8 @@ use crate::faults::OfferFault;
 use channel_uri::Media;
 use decision_cache::Cache;
 use driver_core::View;
-use driver_steps::{Answer, Offered};
 use log_slots::{Amount, AtEnd, Slot, lock_soon};
+use log_steps::{Answer, Offered};
 use media_agents::{Clock, DriverNaming, LogAt, Stamp, Stepped};
 use published_registry::{Pass, caches_stay_right_of_later_looks};
 use std::sync::{Mutex, Wait};

@@ -1,7 +1,7 @@
 //! How long a client rests before it polls. Where a poll takes the lock as soon as a message is there, it finds that one alone
 //! and holds up who offers the next: so a client that finds little lets more come first.
 
-use driver_steps::Answer;
+use log_steps::Answer;
 use media_agents::Stepped;
 
 /// How many fragments are enough for one hold of the lock.

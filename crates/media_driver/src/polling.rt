@@ -2,9 +2,9 @@
 
 ghost use Rattle.audit_ring.specs.Audit.{KeptOf};
 ghost use Rattle.driver_core.specs.Cached.{AreCached};
-ghost use Rattle.driver_steps.specs.declared.answer.Answer.TheVariants.{Gone};
-ghost use Rattle.driver_steps.specs.Decided.{decision_for, poll_decision};
-ghost use Rattle.driver_steps.specs.Moves.{Move, WholeLog};
+ghost use Rattle.log_steps.specs.declared.answer.Answer.TheVariants.{Gone};
+ghost use Rattle.log_steps.specs.Decided.{decision_for, poll_decision};
+ghost use Rattle.log_steps.specs.Moves.{Move, WholeLog};
 ghost use Rattle.log_arena.specs.Homes.{Home};
 ghost use Rattle.media_agents.specs.declared.journal.Dated.{Dated};
 ghost use Rattle.media_agents.specs.Journals.{stamp_of};
@@ -20,8 +20,8 @@ use crate::faults::PollFault;
 use crate::pacing::next_rest;
 use decision_cache::Cache;
 use driver_core::View;
-use driver_steps::{Answer, FragmentCopies, Told};
 use log_slots::{Held, lock_soon, rest};
+use log_steps::{Answer, Answered, FragmentCopies};
 use media_agents::{Clock, DriverNaming, LogAt, Slots, Stamp, Stepped};
 use published_registry::{Pass, caches_stay_right_of_later_looks};
 use std::alloc::{AllocError, Global};
@@ -48,7 +48,7 @@ fn find(pass: Pass, source: u64) -> (Pass, Option<Option<LogAt>>)
 }
 
 /// What came of a step, by that registry.
-fn stamped(told: Result<Told, AllocError>, stamp: Stamp) -> Result<Stepped, AllocError>
+fn stamped(told: Result<Answered, AllocError>, stamp: Stamp) -> Result<Stepped, AllocError>
     ensures ok { IfOk result (λ it. (it.stamp ≡ stamp) × IfOk told (λ told. (told.answer ≡ it.answer) × (told.decision ≡ it.decision))) }
     ensures was { OnOk result (IsOk told) }
     ensures err { OnErr result (IsErr told) }

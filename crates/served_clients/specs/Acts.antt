@@ -2,8 +2,8 @@
 use Rattle.std.specs.Prelude.{◌≡◌, ◌≤◌, ◌⊎◌, ℕ, ℤ, Bool, List, Option, Some, None, Result, IfErr, IfOk}
 use Rattle.command_codec.specs.declared.command.Body.TheVariants.{ClientKeepalive}
 use Rattle.driver_core.specs.Listing.{list, value}
-use Rattle.driver_core.specs.declared.listing.Listed.{Listed}
-use Rattle.driver_core.specs.declared.listing.Shown.{Shown}
+use Rattle.driver_core.specs.declared.asked.listing.Listed.{Listed}
+use Rattle.driver_core.specs.declared.asked.listing.Shown.{Shown}
 use Rattle.driver_service.specs.declared.positions.ImagePositions.{ImagePositions}
 use Rattle.driver_service.specs.declared.positions.PublicationPositions.{PublicationPositions}
 use Rattle.driver_service.specs.declared.reason.Refusal.{Refusal}

@@ -5,11 +5,11 @@ use Rattle.command_codec.specs.Reply.{reply_bytes}
 use Rattle.command_codec.specs.declared.error_code.ErrorCode.TheVariants as error_codes
 use Rattle.command_codec.specs.declared.reply.Reply.TheVariants as layouts
 use Rattle.driver_core.specs.Replies.{layout_of}
-use Rattle.driver_core.specs.declared.listing.Listed.{Listed}
-use Rattle.driver_core.specs.declared.listing.Listed.TheVariants as listed_as
-use Rattle.driver_core.specs.declared.listing.ListedCounter.{ListedCounter}
-use Rattle.driver_core.specs.declared.listing.Shown.{Shown}
-use Rattle.driver_core.specs.declared.listing.Shown.TheVariants as shown_as
+use Rattle.driver_core.specs.declared.asked.listing.Listed.{Listed}
+use Rattle.driver_core.specs.declared.asked.listing.Listed.TheVariants as listed_as
+use Rattle.driver_core.specs.declared.asked.listing.ListedCounter.{ListedCounter}
+use Rattle.driver_core.specs.declared.asked.listing.Shown.{Shown}
+use Rattle.driver_core.specs.declared.asked.listing.Shown.TheVariants as shown_as
 use Rattle.driver_service.specs.declared.reason.Reason.{Reason}
 use Rattle.driver_service.specs.declared.reason.Reason.TheVariants as reasons
 use Rattle.driver_service.specs.declared.reason.Refusal.{Refusal}

@@ -10,7 +10,7 @@ ghost use Rattle.std.specs.Prelude.{◌≡◌, ◌++◌, ◌-◌, ◌^◌, min, 
 
 use crate::refusing::denied;
 use driver_service::{Reason, Refusal};
-use driver_steps::{Fragment, FragmentCopies};
+use log_steps::{Fragment, FragmentCopies};
 use media_driver::PollFault;
 use service_records::Answer;
 use std::alloc::{AllocError, Global};

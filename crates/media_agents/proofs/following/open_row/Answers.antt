@@ -1,5 +1,5 @@
 use Rattle.std.proofs.Common.{ℕ, subst}
-use Rattle.driver_core.specs.declared.settings.Settings.{Settings}
+use Rattle.driver_core.specs.declared.state.settings.Settings.{Settings}
 use Rattle.log_slots.specs.Opening.{OpensAs, room_of}
 use Rattle.media_agents.proofs.FollowingLemmas.{opens_row}
 use Rattle.media_agents.proofs.following.open_row.Goals as goal

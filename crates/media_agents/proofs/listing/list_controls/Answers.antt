@@ -1,10 +1,10 @@
 use Rattle.std.proofs.Common.{List, [], subst, sym, ◌∙◌}
 use Rattle.std.proofs.lemmas.List.{take_all}
 use Rattle.std.specs.Prelude.{filter_map}
-use Rattle.stream_registry.specs.declared.row.Source.{Source}
 use Rattle.media_agents.specs.Finding.{AreNamed, control_in}
 use Rattle.media_agents.proofs.FindingLemmas.{addresses_more, none_named}
 use Rattle.media_agents.proofs.listing.list_controls.Goals as goal
+use Rattle.stream_registry.specs.declared.row.LogRow.{LogRow}
 
 pub loop-row-init : goal.loop-row-init
 loop-row-init c = subst (AreNamed []) (sym c.clear.ensures) none_named
@@ -16,6 +16,6 @@ loop-row-preserved c =
 
 pub returns : goal.returns
 returns c =
-    subst (λ (all : List Source). AreNamed (filter_map control_in all) c.loop-row.controls)
+    subst (λ (all : List LogRow). AreNamed (filter_map control_in all) c.loop-row.controls)
     (take_all c.loop-row.row-index c.sources-row-items.result.now c.loop-row-test.false ∙ c.sources-row-items.ensures)
     c.loop-row.invariant

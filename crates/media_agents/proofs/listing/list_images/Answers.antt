@@ -1,10 +1,10 @@
 use Rattle.std.proofs.Common.{List, ap, take, ◌∙◌}
 use Rattle.std.proofs.lemmas.List.{take_all}
 use Rattle.std.specs.Prelude.{filter_map}
-use Rattle.stream_registry.specs.declared.row.Source.{Source}
 use Rattle.media_agents.specs.Finding.{image_in}
 use Rattle.media_agents.proofs.ImageLemmas.{images_more}
 use Rattle.media_agents.proofs.listing.list_images.Goals as goal
+use Rattle.stream_registry.specs.declared.row.LogRow.{LogRow}
 
 pub loop-row-init : goal.loop-row-init
 loop-row-init c = c.clear.ensures
@@ -17,4 +17,4 @@ loop-row-preserved c =
 pub returns : goal.returns
 returns c =
     c.loop-row.invariant
-    ∙ ap (λ (rows : List Source). take 512 (filter_map image_in rows)) (take_all c.loop-row.row-index c.sources-row-items.result.now c.loop-row-test.false ∙ c.sources-row-items.ensures)
+    ∙ ap (λ (rows : List LogRow). take 512 (filter_map image_in rows)) (take_all c.loop-row.row-index c.sources-row-items.result.now c.loop-row-test.false ∙ c.sources-row-items.ensures)

@@ -1,7 +1,7 @@
 use Rattle.std.proofs.Common.{◌+◌, List, [], ◌∷◌, ◌++◌, refl, subst, sym}
 use Rattle.std.proofs.lemmas.List.{take_all}
-use Rattle.driver_core.specs.declared.event.End.{End}
-use Rattle.driver_steps.proofs.ReaderLemmas.{readers_are_few}
+use Rattle.driver_core.specs.declared.state.event.End.{End}
+use Rattle.log_steps.proofs.ReaderLemmas.{readers_are_few}
 use Rattle.media_agents.specs.Acts.{GoesOn}
 use Rattle.media_agents.specs.Asking.{Asks, Gathers, Joins, JoinsSome}
 use Rattle.media_agents.proofs.AskingLemmas.{answered_next, joins_some, none_next, on_err}

@@ -1,6 +1,6 @@
 use Rattle.std.proofs.Common.{List, subst}
 use Rattle.std.proofs.lemmas.List.{take_all}
-use Rattle.driver_steps.proofs.ReaderLemmas.{readers_are_few}
+use Rattle.log_steps.proofs.ReaderLemmas.{readers_are_few}
 use Rattle.media_agents.specs.Acts.{Each, GoesOn}
 use Rattle.media_agents.specs.Asking.{Settles}
 use Rattle.media_agents.proofs.ChainLemmas.{each_next, each_none}

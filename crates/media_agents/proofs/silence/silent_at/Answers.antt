@@ -1,12 +1,12 @@
 use Rattle.std.proofs.Common.{ℕ, All, List, [], None, Some, ap, rules, subst, sym, take}
-use Rattle.driver_core.specs.declared.settings.Settings.{Settings}
+use Rattle.driver_core.specs.declared.state.settings.Settings.{Settings}
 use Rattle.media_agents.specs.Acts.{GoesOn}
 use Rattle.media_agents.specs.Asking.{Asks, Gathers, LeavesIt, SilenceOf}
 use Rattle.media_agents.proofs.AskingLemmas.{all_asked, answered_next, none_next, on_err, silence_ends}
 use Rattle.media_agents.proofs.ChainLemmas.{chain_none}
-use Rattle.stream_registry.specs.declared.row.Source.{Source}
 use Rattle.media_agents.proofs.silence.silent_at.Goals as goal
 use Rattle.media_agents.proofs.silence.silent_at.Goals.{in-Some+in_ok-push, in_default}
+use Rattle.stream_registry.specs.declared.row.LogRow.{LogRow}
 
 pub loop-row-init : goal.loop-row-init
 loop-row-init g c =
@@ -23,11 +23,11 @@ loop-row-preserved g c =
       | in-Some+in_ok-push w ↦ rw w.silent-is (
           answered_next says c.sources-row-items.result.now c.loop-row.row-index c.row-item.result c.loop-row.silent w.push.new.self w.in-Some.source
           (did c.args.logs.now) (did c.loop-row.logs) (did c.silent_one.new.logs) c.loop-row-test.true c.loop-row.invariant
-          (subst (λ (row : Source). GoesOn (says row (Some w.in-Some.source)) (did c.loop-row.logs) (did c.silent_one.new.logs)) c.row-item.is w.in-Some.ensures) w.in_ok-push.ensures.ok)
+          (subst (λ (row : LogRow). GoesOn (says row (Some w.in-Some.source)) (did c.loop-row.logs) (did c.silent_one.new.logs)) c.row-item.is w.in-Some.ensures) w.in_ok-push.ensures.ok)
       | in_default w ↦ rw w.silent-is (
           none_next says c.sources-row-items.result.now c.loop-row.row-index c.row-item.result c.loop-row.silent
           (did c.args.logs.now) (did c.loop-row.logs) (did c.silent_one.new.logs) c.loop-row-test.true c.loop-row.invariant
-          (subst (λ (row : Source). GoesOn (says row None) (did c.loop-row.logs) (did c.silent_one.new.logs)) c.row-item.is w.in_default.ensures))
+          (subst (λ (row : LogRow). GoesOn (says row None) (did c.loop-row.logs) (did c.silent_one.new.logs)) c.row-item.is w.in_default.ensures))
     ]
 
 pub returns-clause-silent : goal.returns-clause-silent

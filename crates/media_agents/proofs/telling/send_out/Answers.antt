@@ -1,4 +1,4 @@
-use Rattle.driver_core.specs.declared.send_request.Outlet.{Outlet}
+use Rattle.driver_core.specs.declared.asked.send_request.Outlet.{Outlet}
 use Rattle.media_agents.specs.Acts.{Trail}
 use Rattle.media_agents.proofs.TrafficLemmas.{out_more, tried_none}
 use Rattle.media_agents.specs.Traffic.{is_allowed}

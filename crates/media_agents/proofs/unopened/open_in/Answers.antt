@@ -1,7 +1,7 @@
 use Rattle.std.proofs.Common.{Result, subst}
 use Rattle.std.proofs.lemmas.Int.{to_z-of_z}
 use mir.Syntax.{w32}
-use Rattle.driver_steps.specs.Held.{HeldLog}
+use Rattle.log_steps.specs.Held.{HeldLog}
 use Rattle.media_agents.proofs.AskingLemmas.{opens_in}
 use Rattle.media_agents.specs.Asking.{IsHold, Opens}
 use Rattle.media_agents.proofs.unopened.open_in.Goals as goal

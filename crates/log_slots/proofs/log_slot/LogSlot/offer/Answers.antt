@@ -1,5 +1,5 @@
 use Rattle.std.proofs.Common.{rules, ◌≡◌, Some, ap, arith}
-use Rattle.driver_steps.specs.Held.{HeldLog}
+use Rattle.log_steps.specs.Held.{HeldLog}
 use Rattle.log_slots.proofs.MoveCounts.{held_takes}
 use Rattle.log_slots.specs.Slots.{messages_in}
 use Rattle.log_slots.proofs.log_slot.LogSlot.offer.Goals as goal

@@ -1,13 +1,13 @@
 use Rattle.std.proofs.Common.{rules, ◌≡◌, ◌∙◌, Some, ap, sym}
-use Rattle.any_log.specs.Held.{messages_held}
-use Rattle.driver_steps.specs.declared.answer.Answer.TheVariants.{Gone}
-use Rattle.driver_steps.specs.declared.told.Told.{Told}
-use Rattle.driver_steps.specs.Held.{HeldLog}
-use Rattle.driver_steps.specs.Moves.{Does, for_source, poll_move}
+use Rattle.log_steps.specs.declared.answer.Answer.TheVariants.{Gone}
+use Rattle.log_steps.specs.declared.answered.Answered.{Answered}
+use Rattle.log_steps.specs.Held.{HeldLog}
+use Rattle.log_steps.specs.Moves.{Does, for_source, poll_move}
 use Rattle.log_slots.proofs.MoveCounts.{gated_keeps, held_keeps, poll_keeps}
 use Rattle.log_slots.proofs.SlotLemmas.{either_way}
 use Rattle.log_slots.specs.Slots.{messages_in}
 use Rattle.log_slots.proofs.log_slot.LogSlot.poll.Goals as goal
+use Rattle.log_traffic.specs.Held.{messages_held}
 
 pub returns-clause-messages : goal.returns-clause-messages
 returns-clause-messages g c =
@@ -15,7 +15,7 @@ returns-clause-messages g c =
     let after : HeldLog = c.poll_step.new.log in
     let move = for_source c.args.source (poll_move (g.V.View.shows c.args.view.now) c.args.client c.args.subscription c.args.limit) Gone in
     let here : c.args.self.now.log ≡ Some held = search rules in
-    either_way (λ (told : Told). Does move held after told.answer) (after ≡ held) (messages_held after.log ≡ messages_held held.log)
+    either_way (λ (told : Answered). Does move held after told.answer) (after ≡ held) (messages_held after.log ≡ messages_held held.log)
     (λ told does. held_keeps move held after told.answer does c.has_whole.ensures.whole (gated_keeps c.args.source (poll_move (g.V.View.shows c.args.view.now) c.args.client c.args.subscription c.args.limit) Gone (poll_keeps (g.V.View.shows c.args.view.now) c.args.client c.args.subscription c.args.limit)))
     (λ same. ap (λ (h : HeldLog). messages_held h.log) same)
     c.poll_step.result c.poll_step.ensures.does c.poll_step.ensures.err

@@ -1,9 +1,9 @@
 use Rattle.std.proofs.Common.{rules, ◌≡◌, ◌∙◌, Some, ap, sym}
-use Rattle.any_log.specs.Held.{messages_held}
-use Rattle.driver_steps.specs.Held.{HeldLog}
+use Rattle.log_steps.specs.Held.{HeldLog}
 use Rattle.log_slots.proofs.MoveCounts.{rejoined_keeps}
 use Rattle.log_slots.specs.Slots.{messages_in}
 use Rattle.log_slots.proofs.log_slot.LogSlot.rejoin.Goals as goal
+use Rattle.log_traffic.specs.Held.{messages_held}
 
 pub returns-clause-messages : goal.returns-clause-messages
 returns-clause-messages g c =

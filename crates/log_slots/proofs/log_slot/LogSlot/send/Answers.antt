@@ -1,14 +1,14 @@
 use Rattle.std.proofs.Common.{rules, ◌≡◌, ◌∙◌, Some, ap, sym}
-use Rattle.any_log.specs.Held.{messages_held}
-use Rattle.driver_steps.specs.declared.answer.Answer.{Answer}
-use Rattle.driver_steps.specs.declared.answer.Answer.TheVariants.{Gone}
-use Rattle.driver_steps.specs.Held.{HeldLog}
-use Rattle.driver_steps.specs.Moves.{Does, for_source}
-use Rattle.driver_steps.specs.Sending.{send_move}
+use Rattle.log_steps.specs.declared.answer.Answer.{Answer}
+use Rattle.log_steps.specs.declared.answer.Answer.TheVariants.{Gone}
+use Rattle.log_steps.specs.Held.{HeldLog}
+use Rattle.log_steps.specs.Moves.{Does, for_source}
+use Rattle.log_steps.specs.Sending.{send_move}
 use Rattle.log_slots.proofs.MoveCounts.{gated_keeps, held_keeps, send_keeps}
 use Rattle.log_slots.proofs.SlotLemmas.{either_way}
 use Rattle.log_slots.specs.Slots.{messages_in}
 use Rattle.log_slots.proofs.log_slot.LogSlot.send.Goals as goal
+use Rattle.log_traffic.specs.Held.{messages_held}
 
 pub returns-clause-messages : goal.returns-clause-messages
 returns-clause-messages g c =

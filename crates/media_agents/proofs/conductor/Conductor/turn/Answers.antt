@@ -1,5 +1,5 @@
 use Rattle.std.proofs.Common.{subst}
-use Rattle.driver_core.specs.declared.event.Event.TheVariants.{Tick}
+use Rattle.driver_core.specs.declared.state.event.Event.TheVariants.{Tick}
 use Rattle.media_agents.specs.Turns.{Turned}
 use Rattle.media_agents.specs.Works.{Conducting, Does, Misses, Taking, events_made}
 use Rattle.media_agents.proofs.conductor.Conductor.turn.Goals as goal

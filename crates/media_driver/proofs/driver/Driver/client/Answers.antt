@@ -1,5 +1,5 @@
 use Rattle.std.proofs.Common.{◌≡◌, Some}
-use Rattle.driver_core.specs.declared.outcome.Response.TheVariants.{Attached}
+use Rattle.driver_core.specs.declared.state.outcome.Response.TheVariants.{Attached}
 use Rattle.media_driver.proofs.AttachLemmas.{attaches}
 use Rattle.media_driver.proofs.driver.Driver.client.Goals as goal
 
