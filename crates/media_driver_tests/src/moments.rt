@@ -133,6 +133,22 @@ fn is_conducted(audit: &Audited, until: u64) -> bool {
     commands == 2 && came > 0 && went == 1 && audit.dropped == 0
 }
 
+/// The conductor's audit comes to have that. It notes an entry after the entry's replies.
+fn conducted<
+    N: DriverNaming + Send + Sync + 'static,
+    R: Threads + Wait + time::Clock + Copy + Drop + Send + Sync + 'static,
+    C: Clock + Copy + Drop + Send + 'static,
+>(rt: &R, driver: &mut Driver<N, R, C>, until: u64) -> Outcome {
+    for _ in 0..WAIT {
+        match driver.audit(Agent::Conductor) {
+            Ok(audit) if is_conducted(&audit, until) => return Ok(()),
+            Ok(_) => thread::sleep(rt, Duration::from_millis(1)),
+            Err(_) => return Err("there is no memory for an audit"),
+        }
+    }
+    Err("the conductor's audit has something else than what was decided")
+}
+
 /// A client reads its own stream until the rule ends that lets it.
 fn reads_until<
     N: DriverNaming + Send + Sync + 'static,
@@ -156,11 +172,7 @@ fn reads_until<
         Err(PollFault::Gone) => return Err("the audit has something else than what was decided"),
         _ => return Err("the log is read after the rule has ended"),
     }
-    match driver.audit(Agent::Conductor) {
-        Ok(audit) if is_conducted(&audit, until) => Ok(()),
-        Ok(_) => Err("the conductor's audit has something else than what was decided"),
-        Err(_) => Err("there is no memory for an audit"),
-    }
+    conducted(&rt, driver, until)
 }
 
 /// A client reads its own stream as soon as the rule begins that lets it.
