@@ -73,7 +73,8 @@ fn offer(log: &mut TermLog, plain: &mut Plain, message: &[u8]) -> bool {
     put && log.offer(message) == Offer::At(plain.tail())
 }
 
-/// Whether these bytes of a log's lease are the last three terms of all, each in its buffer, and zeros after the tail.
+/// Whether these bytes of a log's lease are the last three terms of all, each in its buffer. After the tail they may be what an
+/// older term left, which no reader is given; a log in its first three terms has zeros there.
 pub(crate) fn is_held(bytes: &[u8], plain: &Plain) -> bool {
     let newest = plain.tail() / 65_536;
     let mut same = true;
@@ -84,11 +85,10 @@ pub(crate) fn is_held(bytes: &[u8], plain: &Plain) -> bool {
             .wrapping_sub(back)
             .wrapping_mul(65_536)
             .wrapping_add(place as u64 % 65_536);
-        let wanted = match plain.bytes.get(position as usize) {
-            Some(wanted) => *wanted,
-            None => 0,
+        same &= match plain.bytes.get(position as usize) {
+            Some(wanted) => *byte == *wanted,
+            None => newest >= 3 || *byte == 0,
         };
-        same &= *byte == wanted;
     }
     same
 }

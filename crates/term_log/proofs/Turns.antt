@@ -1,9 +1,9 @@
 -- Bytes that are written into lists that are turned round.
-use Rattle.std.proofs.Common.{◌≡◌, ◌≢◌, ℕ, ◌+◌, ◌*◌, ◌-◌, ◌<◌, ◌≤◌, List, [], ◌++◌, length, take, drop, refl, sym, ap, ap₂, ◌∙◌, arith, length-append, append_assoc}
-use Rattle.std.specs.Prelude.{replicate}
-use Rattle.std.proofs.lemmas.List.{length-replicate, take_rest, take-append-drop, take-append-le, drop-append-le, take_at, drop_at, drop-drop, length-take-le, length-drop, take_all, drop_all, append-nil}
-use Rattle.std.proofs.Math.Seq.{take-add}
-use Rattle.term_log.specs.Buffers.{IsBase, written, turned}
+use Rattle.std.proofs.Common.{◌≡◌, ◌≢◌, ℕ, ◌+◌, ◌*◌, ◌-◌, ◌<◌, ◌≤◌, true, false, max, List, [], ◌++◌, length, take, drop, refl, sym, ap, ap₂, ◌∙◌, arith, length-append, append_assoc}
+use Rattle.std.specs.Prelude.{replicate, nat_le}
+use Rattle.std.proofs.lemmas.List.{length-replicate, take_rest, take-append-drop, take-append-le, drop-append-le, take_at, drop_at, drop-drop, length-take-le, length-drop, take_all, drop_all, append-nil, drop-replicate, replicate-append-replicate}
+use Rattle.std.proofs.Math.Seq.{take-add, drop-append-add}
+use Rattle.term_log.specs.Buffers.{IsBase, written, turned, seen_of}
 use Rattle.std.proofs.lemmas.Bool.Decides.{nat_tests}
 use Rattle.term_log.specs.Turning.{in_order, IsEnd}
 
@@ -47,48 +47,28 @@ order_written end term at n new bytes size within before place =
     ∙ in_order_parts (written at new a) b end (length-written at new a (omega arith) ∙ a_size)
     ∙ sym (written_behind at n new a b (omega arith))
 
+pub length-in_order : (end : ℕ) (bytes : List ℕ) → end ≤ length bytes → length (in_order end bytes) ≡ length bytes
+length-in_order end bytes within =
+    omega (arith, length-append (drop end bytes) (take end bytes), length-drop end bytes, length-take-le end bytes within)
+
 -- the buffer of the oldest term is that behind the newest one's
-pub turned_behind : (end term : ℕ) (zeros bytes : List ℕ) → length bytes ≡ 3 * term → end + term ≤ 3 * term → length zeros ≡ term
-    → in_order (end + term) (written end zeros bytes) ≡ drop term (in_order end bytes) ++ zeros
-turned_behind end term zeros bytes size within cleared =
+order_next : (end term : ℕ) (bytes : List ℕ) → end + term ≤ length bytes
+    → in_order (end + term) bytes ≡ drop term (in_order end bytes) ++ take term (in_order end bytes)
+order_next end term bytes within =
     let a : List ℕ = take end bytes in
     let b : List ℕ = drop end bytes in
-    let a_size : length a ≡ end = length-take-le end bytes (omega arith) in
-    let b_size : length b ≡ 3 * term - end = omega (arith, length-drop end bytes) in
-    let rest : drop (end + length zeros) bytes ≡ drop term b = ap (λ (k : ℕ). drop (end + k) bytes) cleared ∙ sym (drop-drop term end bytes) in
-    let front : length (a ++ zeros) ≡ end + term = omega (arith, length-append a zeros) in
-    ap (λ (x : List ℕ). in_order (end + term) (a ++ (zeros ++ x))) rest
-    ∙ ap (in_order (end + term)) (sym (append_assoc a zeros (drop term b)))
-    ∙ in_order_parts (a ++ zeros) (drop term b) (end + term) front
-    ∙ sym (append_assoc (drop term b) a zeros)
-    ∙ ap (λ (x : List ℕ). x ++ zeros) (sym (drop-append-le term b a (omega arith)))
+    let b_size : term ≤ length b = omega (arith, length-drop end bytes) in
+    ap₂ (λ (x y : List ℕ). x ++ y) (sym (drop-drop term end bytes)) (take-add end term bytes)
+    ∙ sym (append_assoc (drop term b) a (take term b))
+    ∙ ap₂ (λ (x y : List ℕ). x ++ y) (sym (drop-append-le term b a b_size)) (sym (take-append-le term b a b_size))
 
 -- or that at the front, where there is none behind it
-pub turned_front : (end term : ℕ) (zeros bytes : List ℕ) → length bytes ≡ 3 * term → end ≡ 3 * term → length zeros ≡ term
-    → in_order term (written 0 zeros bytes) ≡ drop term (in_order end bytes) ++ zeros
-turned_front end term zeros bytes size is cleared =
+order_front : (end term : ℕ) (bytes : List ℕ) → length bytes ≤ end
+    → in_order term bytes ≡ drop term (in_order end bytes) ++ take term (in_order end bytes)
+order_front end term bytes is =
     let whole : in_order end bytes ≡ bytes =
-    ap₂ (λ (x y : List ℕ). x ++ y) (drop_all end bytes (omega arith)) (take_all end bytes (omega arith)) in
-    let rest : drop (0 + length zeros) bytes ≡ drop term bytes = let n : 0 + length zeros ≡ term = omega arith in ap (λ (k : ℕ). drop k bytes) n in
-    ap (λ (x : List ℕ). in_order term (zeros ++ x)) rest
-    ∙ in_order_parts zeros (drop term bytes) term cleared
-    ∙ ap (λ (x : List ℕ). drop term x ++ zeros) (sym whole)
-
--- where the newest term's buffer is the last one, the next is at the front
-pub turned_to_front : (end next at term : ℕ) (bytes : List ℕ) → length bytes ≡ 3 * term → end ≡ 3 * term → next ≡ term → at ≡ next - term
-    → in_order next (written at (replicate term 0) bytes) ≡ turned term (in_order end bytes)
-turned_to_front end next at term bytes size is next_is at_is =
-    let zero_at : at ≡ 0 = omega arith in
-    ap₂ (λ (n a : ℕ). in_order n (written a (replicate term 0) bytes)) next_is zero_at
-    ∙ turned_front end term (replicate term 0) bytes size is (length-replicate term 0)
-
--- else it is the one behind it
-pub turned_to_next : (end next at term : ℕ) (bytes : List ℕ) → length bytes ≡ 3 * term → end + term ≤ 3 * term → next ≡ end + term → at ≡ next - term
-    → in_order next (written at (replicate term 0) bytes) ≡ turned term (in_order end bytes)
-turned_to_next end next at term bytes size within next_is at_is =
-    let place : at ≡ end = omega arith in
-    ap₂ (λ (n a : ℕ). in_order n (written a (replicate term 0) bytes)) next_is place
-    ∙ turned_behind end term (replicate term 0) bytes size within (length-replicate term 0)
+    ap₂ (λ (x y : List ℕ). x ++ y) (drop_all end bytes is) (take_all end bytes is) in
+    ap (in_order term) (sym whole)
 
 -- a buffer that is not the last one has another behind it
 pub end_before : (term end : ℕ) → IsEnd term end → end ≢ 3 * term → end + term ≤ 3 * term
@@ -138,3 +118,125 @@ part_before end term base offset count bytes is at size inside before =
     ∙ part_front k count (take end bytes) (drop end bytes) (omega (arith, front, fits, high))
     ∙ sym (part_behind k count (drop end bytes) (take end bytes))
     ∙ ap (λ (j : ℕ). take count (drop j (in_order end bytes))) (sym place)
+
+-- ---- what is seen of the newest term
+
+-- what is seen is as it is
+part_seen : (at count m : ℕ) (bytes rest : List ℕ) → at + count ≤ m → m ≤ length bytes → take count (drop at (take m bytes ++ rest)) ≡ take count (drop at bytes)
+part_seen at count m bytes rest inside within =
+    let front : length (take m bytes) ≡ m = length-take-le m bytes within in
+    part_front at count (take m bytes) rest (omega (arith, front))
+    ∙ sym (part_front at count (take m bytes) (drop m bytes) (omega (arith, front)))
+    ∙ ap (λ (x : List ℕ). take count (drop at x)) (take-append-drop m bytes)
+
+-- the front up to the end of what was written
+take_written : (n m : ℕ) (new bytes : List ℕ) → n + length new ≤ length bytes → m ≡ n + length new → take m (written n new bytes) ≡ take n bytes ++ new
+take_written n m new bytes within is =
+    let front : length (take n bytes) ≡ n = length-take-le n bytes (omega arith) in
+    let size : length (take n bytes ++ new) ≡ m = omega (arith, front, length-append (take n bytes) new) in
+    ap (take m) (sym (append_assoc (take n bytes) new (drop (n + length new) bytes)))
+    ∙ take_at (take n bytes ++ new) (drop (n + length new) bytes) m size
+
+-- what is written within what is seen leaves what is not seen
+written_inside : (n m r : ℕ) (new bytes : List ℕ) → m ≤ length bytes → n + length new ≤ m
+    → take m (written n new bytes) ++ replicate r 0 ≡ written n new (take m bytes ++ replicate r 0)
+written_inside n m r new bytes within inside =
+    let zeros : List ℕ = replicate r 0 in
+    let a : List ℕ = take m bytes in
+    let d : List ℕ = drop m bytes in
+    let a_size : length a ≡ m = length-take-le m bytes within in
+    let there : n + length new ≤ length a = omega (arith, inside, a_size) in
+    ap (λ (x : List ℕ). take m (written n new x) ++ zeros) (sym (take-append-drop m bytes))
+    ∙ ap (λ (x : List ℕ). take m x ++ zeros) (written_front n new a d there)
+    ∙ ap (λ (x : List ℕ). x ++ zeros) (take_at (written n new a) d m (length-written n new a there ∙ a_size))
+    ∙ sym (written_front n new a zeros there)
+
+zeros_behind : (j r s : ℕ) (a : List ℕ) → length a ≤ j → r + length a ≡ s + j → drop j (a ++ replicate r 0) ≡ replicate s 0
+zeros_behind j r s a past left =
+    let count : j ≡ length a + (j - length a) = omega (arith, past) in
+    let rest : r - (j - length a) ≡ s = omega (arith, past, left) in
+    ap (λ (i : ℕ). drop i (a ++ replicate r 0)) count
+    ∙ drop-append-add a (replicate r 0) (j - length a)
+    ∙ drop-replicate (j - length a) r 0
+    ∙ ap (λ (i : ℕ). replicate i 0) rest
+
+-- what is written right behind what is seen, or from within it on beyond, leaves zeros behind
+written_beyond : (n m r s : ℕ) (new bytes : List ℕ) → n ≤ m → m < n + length new → n + length new ≤ length bytes
+    → r + m ≡ length bytes → s + (n + length new) ≡ length bytes
+    → take (n + length new) (written n new bytes) ++ replicate s 0 ≡ written n new (take m bytes ++ replicate r 0)
+written_beyond n m r s new bytes behind past fits r_is s_is =
+    let zeros : ℕ → List ℕ = λ (k : ℕ). replicate k 0 in
+    let a : List ℕ = take m bytes in
+    let within : m ≤ length bytes = omega (arith, past, fits) in
+    let a_size : length a ≡ m = length-take-le m bytes within in
+    let front : take n (a ++ zeros r) ≡ take n bytes = part_seen 0 n m bytes (zeros r) (omega (arith, behind)) within in
+    let rest : drop (n + length new) (a ++ zeros r) ≡ zeros s = zeros_behind (n + length new) r s a (omega (arith, past, a_size)) (omega (arith, a_size, r_is, s_is)) in
+    ap (λ (x : List ℕ). x ++ zeros s) (take_written n (n + length new) new bytes fits refl)
+    ∙ append_assoc (take n bytes) new (zeros s)
+    ∙ sym (ap₂ (λ (x y : List ℕ). x ++ (new ++ y)) front rest)
+
+-- what is written within what is seen, or right behind it, is seen in turn
+pub seen_written : (n m more r s : ℕ) (new bytes : List ℕ) → n ≤ m → m ≤ length bytes → n + length new ≤ length bytes → more ≡ max m (n + length new)
+    → r + m ≡ length bytes → s + more ≡ length bytes → take more (written n new bytes) ++ replicate s 0 ≡ written n new (take m bytes ++ replicate r 0)
+seen_written n m more r s new bytes behind within fits more_is r_is s_is =
+    let after : ℕ → ℕ → List ℕ = λ (k j : ℕ). take k (written n new bytes) ++ replicate j 0 in
+    elim (nat_le (n + length new) m) as (λ t. nat_le (n + length new) m ≡ t → take more (written n new bytes) ++ replicate s 0 ≡ written n new (take m bytes ++ replicate r 0)) [
+      | true ↦ λ inside.
+          let there : n + length new ≤ m = grind (arith, nat_tests, inside) in
+          let same : more ≡ m = omega (arith, more_is, there) in
+          let rest : s ≡ r = omega (arith, same, r_is, s_is) in
+          ap₂ after same rest ∙ written_inside n m r new bytes within there
+      | false ↦ λ beyond.
+          let past : m < n + length new = grind (arith, nat_tests, beyond) in
+          let same : more ≡ n + length new = omega (arith, more_is, past) in
+          ap (λ (k : ℕ). after k s) same ∙ written_beyond n m r s new bytes behind past fits r_is (omega (arith, same, s_is))
+    ]
+    refl
+
+-- what is cleared right behind what is seen changes nothing of it
+pub seen_cleared : (m more r s : ℕ) (bytes : List ℕ) → m ≤ more → more ≤ length bytes → r + m ≡ length bytes → s + more ≡ length bytes
+    → take more (written m (replicate (more - m) 0) bytes) ++ replicate s 0 ≡ take m bytes ++ replicate r 0
+seen_cleared m more r s bytes ahead within r_is s_is =
+    let zeros : ℕ → List ℕ = λ (k : ℕ). replicate k 0 in
+    let size : length (zeros (more - m)) ≡ more - m = length-replicate {A = ℕ} (more - m) 0 in
+    let count : more - m + s ≡ r = omega (arith, ahead, r_is, s_is) in
+    ap (λ (x : List ℕ). x ++ zeros s) (take_written m more (zeros (more - m)) bytes (omega (arith, size, ahead, within)) (omega (arith, size, ahead)))
+    ∙ append_assoc (take m bytes) (zeros (more - m)) (zeros s)
+    ∙ ap (λ (x : List ℕ). take m bytes ++ x) (replicate-append-replicate (more - m) s 0 ∙ ap zeros count)
+
+-- of a new term nothing is seen, where the one before is seen whole
+seen_turned : (term filled : ℕ) (bytes : List ℕ) → length bytes ≡ 3 * term → filled ≡ term
+    → seen_of term 0 (drop term bytes ++ take term bytes) ≡ turned term (seen_of term filled bytes)
+seen_turned term filled bytes size is =
+    let none : term - filled ≡ 0 = omega (arith, is) in
+    let whole : seen_of term filled bytes ≡ bytes =
+    ap₂ (λ (x : List ℕ) (k : ℕ). x ++ replicate k 0) (take_all (2 * term + filled) bytes (omega (arith, size, is))) none
+    ∙ append-nil bytes in
+    let front : length (drop term bytes) ≡ 2 * term + 0 = omega (arith, size, length-drop term bytes) in
+    let rest : term - 0 ≡ term = omega arith in
+    ap₂ (λ (x : List ℕ) (k : ℕ). x ++ replicate k 0) (take_at (drop term bytes) (take term bytes) (2 * term + 0) front) rest
+    ∙ ap (turned term) (sym whole)
+
+-- where the newest term's buffer is the last one, the next is at the front
+pub turned_to_front : (end next term filled : ℕ) (bytes : List ℕ) → length bytes ≡ 3 * term → end ≡ 3 * term → next ≡ term → filled ≡ term
+    → seen_of term 0 (in_order next bytes) ≡ turned term (seen_of term filled (in_order end bytes))
+turned_to_front end next term filled bytes size is next_is full =
+    ap (λ (n : ℕ). seen_of term 0 (in_order n bytes)) next_is
+    ∙ ap (seen_of term 0) (order_front end term bytes (omega (arith, size, is)))
+    ∙ seen_turned term filled (in_order end bytes) (length-in_order end bytes (omega (arith, size, is)) ∙ size) full
+
+-- else it is the one behind it
+pub turned_to_next : (end next term filled : ℕ) (bytes : List ℕ) → length bytes ≡ 3 * term → end + term ≤ 3 * term → next ≡ end + term → filled ≡ term
+    → seen_of term 0 (in_order next bytes) ≡ turned term (seen_of term filled (in_order end bytes))
+turned_to_next end next term filled bytes size within next_is full =
+    ap (λ (n : ℕ). seen_of term 0 (in_order n bytes)) next_is
+    ∙ ap (seen_of term 0) (order_next end term bytes (omega (arith, size, within)))
+    ∙ seen_turned term filled (in_order end bytes) (length-in_order end bytes (omega (arith, size, within)) ∙ size) full
+
+-- a part of what is seen
+pub part_filled : (end term base offset count filled : ℕ) (bytes : List ℕ) → length bytes ≡ 3 * term → end ≤ 3 * term → filled ≤ term
+    → base + offset + count ≤ 2 * term + filled
+    → take count (drop (base + offset) (in_order end bytes)) ≡ take count (drop (base + offset) (seen_of term filled (in_order end bytes)))
+part_filled end term base offset count filled bytes size high most inside =
+    let whole = length-in_order end bytes (omega (arith, size, high)) in
+    sym (part_seen (base + offset) count (2 * term + filled) (in_order end bytes) (replicate (term - filled) 0) inside (omega (arith, whole, size, most)))

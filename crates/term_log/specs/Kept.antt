@@ -95,8 +95,8 @@ abbrev pub after_frames : Kept → List Frame → Kept
 after_frames k [] = k
 after_frames k (f ∷ fs) = after_frames (after_frame k f) fs
 
--- facts on numbers that every log keeps; where the tail is in its term is kept beside it
-pub record IsKept (i : Ident) (tail offset : ℕ) (term_id : ℤ) (messages : ℕ) (buffers : Buffers) : Type 0 where
+-- facts on numbers that every log keeps; where the tail is in its term is kept beside it, and all before it is written
+pub record IsKept (i : Ident) (tail offset : ℕ) (term_id : ℤ) (messages : ℕ) (buffers : Buffers) (filled : ℕ) : Type 0 where
   pub ident : IsIdent i
   pub same : buffers.term_length ≡ i.term_length
   pub low : i.start ≤ tail
@@ -105,3 +105,4 @@ pub record IsKept (i : Ident) (tail offset : ℕ) (term_id : ℤ) (messages : �
   pub counted : i.start + 32 * messages ≤ tail
   pub offset_is : offset ≡ tail % i.term_length
   pub term_is : term_id ≡ term_id_of i.initial_term tail i.term_length
+  pub written : offset ≤ filled

@@ -48,9 +48,9 @@ impl Model for Appender {
 
     ghost coded = { kept_code };
 
-    ghost view = { λ a. record { ident = a.ident; tail = a.tail; messages = a.messages; buffers = a.buffers; marks = a.marks } };
+    ghost view = { λ a. record { ident = a.ident; tail = a.tail; messages = a.messages; buffers = a.buffers.seen; marks = a.marks } };
 
-    ghost invariant = { λ a. IsKept a.ident a.tail a.offset a.term_id a.messages a.buffers };
+    ghost invariant = { λ a. IsKept a.ident a.tail a.offset a.term_id a.messages a.buffers.seen a.buffers.filled };
 }
 
 /// Where the mark of a position stands.
@@ -167,10 +167,12 @@ impl Appender {
           marks = marked self.old.tail self.old.marks;
         } }
     {
-        let full = self.offset + span == u64::from(self.ident.term_length);
+        let end = self.offset + span;
+        let full = end == u64::from(self.ident.term_length);
         mark(&mut self.marks, self.tail);
         self.tail += span;
         self.messages += begun;
+        self.buffers.fill(end as usize);
         self.buffers.settle(full);
         if full {
             let (term_id, offset) = term_of(
@@ -181,7 +183,7 @@ impl Appender {
             self.term_id = term_id;
             self.offset = u64::from(offset);
         } else {
-            self.offset += span;
+            self.offset = end;
         }
     }
 

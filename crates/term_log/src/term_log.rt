@@ -74,8 +74,9 @@ impl TermLog {
         }
     }
 
-    /// What always holds: no two frames meet, each names the log's session and stream, after the tail are zeros, and each
-    /// subscription that reads stands where a frame begins, or at the tail, and not below [`TermLog::low`].
+    /// What always holds: no two frames meet, each names the log's session and stream, all after the tail counts as
+    /// zeros, and each subscription that reads stands where a frame begins, or at the tail, and not below
+    /// [`TermLog::low`].
     pub fn holds(&self)
         ensures { HasLayout self.now }
     {

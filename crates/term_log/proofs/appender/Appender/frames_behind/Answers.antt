@@ -9,7 +9,7 @@ use Rattle.term_log.proofs.appender.Appender.frames_behind.Goals as goal
 pub returns-clause-all : goal.returns-clause-all
 returns-clause-all c =
     let s = c.self.inside in
-    let k : Kept = record { ident = s.ident; tail = s.tail; messages = s.messages; buffers = s.buffers; marks = s.marks } in
+    let k : Kept = record { ident = s.ident; tail = s.tail; messages = s.messages; buffers = s.buffers.seen; marks = s.marks } in
     let high = rw (← c.self.view_is) at c.requires.high in
     let all = rw (← c.self.view_is) at c.terms_from.ensures.all in
     let terms = c.terms_from.result in

@@ -22,12 +22,27 @@ part-bytes-requires-clause-base c =
     let base : ℕ = c.args.position - c.args.position % term + 2 * term - (s.tail - s.tail % term) in
     let here : IsBase term base = base_is s.tail c.args.position term base (omega arith) (omega (arith, low)) high refl in
     let same_base : base ≡ c.term_start-begin.result + 2 * c.from-term_length.result - (s.tail - s.offset) = omega arith in
-    subst (λ (n : ℕ). IsBase s.buffers.term_length n) same_base (subst (λ (t : ℕ). IsBase t base) (sym same) here)
+    subst (λ (n : ℕ). IsBase s.buffers.seen.term_length n) same_base (subst (λ (t : ℕ). IsBase t base) (sym same) here)
+
+-- no byte is lent from the tail on
+pub part-bytes-requires-clause-filled : goal.part-bytes-requires-clause-filled
+part-bytes-requires-clause-filled c =
+    let s = c.self.inside in
+    let same = c.self.invariant.same in
+    let written = c.self.invariant.written in
+    let high = rw (← c.self.view_is) at c.requires.high in
+    let term : ℕ = s.ident.term_length in
+    let term_low = c.self.invariant.ident.term_low in
+    let is : c.from-term_length.result ≡ term = c.from-term_length.ensures in
+    let begin : c.term_start-begin.result ≡ c.args.position - c.args.position % term = rw (← c.self.view_is) at c.term_start-begin.ensures in
+    let end : c.min-end.result ≡ min s.tail (c.term_start-begin.result + c.from-term_length.result) = c.min-end.ensures in
+    let rest : c.args.position % term < term = omega arith in
+    omega (arith, same, written, high, is, begin, end, rest)
 
 pub returns-clause-gives : goal.returns-clause-gives
 returns-clause-gives c =
     let s = c.self.inside in
-    let k : Kept = record { ident = s.ident; tail = s.tail; messages = s.messages; buffers = s.buffers; marks = s.marks } in
+    let k : Kept = record { ident = s.ident; tail = s.tail; messages = s.messages; buffers = s.buffers.seen; marks = s.marks } in
     let position : ℕ = c.args.position in
     let low = rw (← c.self.view_is) at c.requires.low in
     let high = rw (← c.self.view_is) at c.requires.high in

@@ -10,7 +10,7 @@ use Rattle.term_log.proofs.appender.Appender.terms_from.Goals as goal
 pub returns-clause-all : goal.returns-clause-all
 returns-clause-all c =
     let s = c.self.inside in
-    let k : Kept = record { ident = s.ident; tail = s.tail; messages = s.messages; buffers = s.buffers; marks = s.marks } in
+    let k : Kept = record { ident = s.ident; tail = s.tail; messages = s.messages; buffers = s.buffers.seen; marks = s.marks } in
     let low = rw (← c.self.view_is) at c.requires.low in
     let second = rw (← c.self.view_is) at c.next_term-second.ensures.value in
     let third = rw (← c.self.view_is) at c.next_term-third.ensures.value in

@@ -3,7 +3,7 @@ use Rattle.std.proofs.Common.{◌≡◌, ℕ, ◌+◌, List, take, drop, ap, ◌
 use Rattle.std.proofs.lemmas.Bool.Decides.{nat_tests}
 use Rattle.log_arena.specs.Lease.{lease_bytes}
 use Rattle.term_log.specs.Turning.{in_order}
-use Rattle.term_log.proofs.Turns.{part_later, part_before}
+use Rattle.term_log.proofs.Turns.{part_filled, part_later, part_before}
 use Rattle.term_log.proofs.buffers.TermBuffers.part.Goals as goal
 use Rattle.term_log.proofs.buffers.TermBuffers.part.Goals.{then-base-behind, else-base-behind}
 
@@ -27,4 +27,6 @@ returns-clause-bytes c =
           ap (λ (k : ℕ). take count (drop k bytes)) w.at-is
           ∙ part_before s.end s.term_length base offset count bytes c.self.invariant.at is_base c.self.invariant.size inside (grind (arith, nat_tests, w.if-base-behind.false))
     ] in
-    rw (← c.self.view_is) (lent ∙ here)
+    let filled = rw (← c.self.view_is) at c.requires.filled in
+    rw (← c.self.view_is)
+    (lent ∙ here ∙ part_filled s.end s.term_length base offset count s.filled bytes c.self.invariant.size c.self.invariant.high c.self.invariant.within filled)
