@@ -601,22 +601,13 @@ impl Log {
         at
     }
 
-    fn step(&mut self, span: u64) {
-        self.tail += span;
-        if self.tail % self.term() == 0 {
-            let at = self.buffer(self.tail);
-            let end = at + self.term() as usize;
-            self.bytes[at..end].fill(0);
-        }
-    }
-
     fn append(&mut self, flags: u8, payload: &[u8]) {
         let length = HEADER + payload.len();
         let at = self.header(length as u32, flags, 1);
         let span = padded(length as u64);
         self.bytes[at + HEADER..at + length].copy_from_slice(payload);
         self.bytes[at + length..at + span as usize].fill(0);
-        self.step(span);
+        self.tail += span;
     }
 
     fn offer(&mut self, message: &[u8]) -> Offer {
@@ -637,8 +628,9 @@ impl Log {
         }
         let left = self.term() - self.tail % self.term();
         if size > left {
-            self.header(left as u32, 0xc0, 0);
-            self.step(left);
+            let at = self.header(left as u32, 0xc0, 0);
+            self.bytes[at + HEADER..at + left as usize].fill(0);
+            self.tail += left;
             return Offer::AdminAction;
         }
         if message.is_empty() {

@@ -58,6 +58,9 @@ for bytes in 64 1376; do
             [ -z "$zmq" ] || run "$out/theirs" "$out/beside" zmq "$bytes" "$count"
         done
         row "$bytes bytes, publishers: $publishers" "$count" "$out/ours" "$start"
+        : >"$out/ours"
+        for _ in $(seq "$runs"); do run "$out/ours" "$program" lists "$bytes" "$((count / publishers))" 10 "$publishers"; done
+        row "$bytes bytes, in sixteens, publishers: $publishers" "$count" "$out/ours" "$start"
         [ -z "$zmq" ] || row "$bytes bytes, ZeroMQ" "$count" "$out/theirs" 0
     done
     begin

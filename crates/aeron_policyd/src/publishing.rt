@@ -4,8 +4,8 @@ use crate::fault::Fault;
 use crate::replies::Ready;
 use crate::station::{Naks, Station};
 use channel_uri::Address;
-use media_driver::{DriverNaming, OfferFault, PublicationPositions};
-use piped_messages::{Cut, Sent};
+use media_driver::{DriverNaming, Messages, OfferFault, PublicationPositions};
+use piped_messages::{Cut, Sent, first_message};
 use program_parts::{Disk, Input, Machine, pause};
 use std::alloc::{AllocError, Global};
 use stream_gaps::{Gap, NotTaken, TakenUp, Untaken};
@@ -189,23 +189,118 @@ fn wait_on<R: Machine>(
     Ok(())
 }
 
+/// How many messages are offered at once, at most.
+const BATCH: u32 = 16;
+
+/// Messages of the input that are whole, one after another.
+#[derive(Drop)]
+struct Batch<'a, 'b> {
+    next: Option<&'a [u8]>,
+    /// What is not done with: from the next message on, and what stands after it.
+    bytes: &'a [u8],
+    rest: &'a [u8],
+    /// How it is cut, and whether the input ends with it.
+    by: Cut,
+    ended: bool,
+    progress: &'b mut Progress,
+    /// Whether there was no memory to note a message that was taken.
+    lacks: bool,
+}
+
+impl<'a, 'b> Batch<'a, 'b> {
+    /// The next message is cut off, if there is one.
+    fn cut(&mut self) {
+        self.bytes = self.rest;
+        match first_message(self.rest, self.by, self.ended) {
+            Some((message, rest)) => {
+                self.next = Some(message);
+                self.rest = rest;
+            }
+            None => self.next = None,
+        }
+    }
+}
+
+impl<'a, 'b> Messages for Batch<'a, 'b> {
+    ghost use Rattle.std.specs.Option.{option_map};
+
+    ghost next_is = { λ batch. option_map (λ message. message.now) batch.next };
+
+    ghost went = { λ before position after. Unit {0} };
+
+    fn next(&self) -> Option<&[u8]> {
+        self.next
+    }
+
+    fn taken(&mut self, position: u64) {
+        let length = match self.next {
+            Some(message) => message.len(),
+            None => 0,
+        };
+        if self.progress.note(position, length).is_err() {
+            self.lacks = true;
+        }
+        self.cut();
+    }
+}
+
+/// What came of a batch, and how many bytes are not done with. `None` where no message was whole.
+struct Came {
+    offered: Option<Result<(), OfferFault>>,
+    left: usize,
+    lacks: bool,
+}
+
 impl<N: DriverNaming + Send + Sync + 'static, R: Machine, F: Disk> Station<N, R, F> {
-    /// The first message that is left is offered, if there is one. Whether anything was done.
+    /// The first messages that are left are offered, if there are any.
+    fn offer_batch(&mut self, input: &Input, progress: &mut Progress) -> Came {
+        let registration = progress.registration;
+        let (bytes, by, ended) = input.uncut();
+        let mut batch = Batch {
+            next: None,
+            bytes,
+            rest: bytes,
+            by,
+            ended,
+            progress,
+            lacks: false,
+        };
+        batch.cut();
+        let offered = match batch.next {
+            Some(_) => Some(
+                self.client
+                    .offer_many(&self.rt, registration, &mut batch, BATCH),
+            ),
+            None => None,
+        };
+        Came {
+            offered,
+            left: batch.bytes.len(),
+            lacks: batch.lacks,
+        }
+    }
+
+    /// The first messages that are left are offered, or more of the input is taken. Whether anything was done.
     fn offer_next(
         &mut self,
         input: &mut Input,
         progress: &mut Progress,
         wait: u64,
     ) -> Result<bool, Fault> {
-        let Some((message, rest)) = input.message() else {
+        let Came {
+            offered,
+            left,
+            lacks,
+        } = self.offer_batch(input, progress);
+        let Some(offered) = offered else {
             return Ok(input.take()?);
         };
-        match self.client.offer(&self.rt, progress.registration, message) {
-            Ok(position) => {
-                progress.note(position, message.len())?;
-                input.pass(rest);
-            }
-            Err(refused) => wait_on(&self.rt, progress, refused, self.now(), wait)?,
+        input.pass(left);
+        if lacks {
+            return Err(Fault::NO_MEMORY);
+        }
+        if let Err(refused) = offered {
+            wait_on(&self.rt, progress, refused, self.now(), wait)?;
         }
         Ok(true)
     }

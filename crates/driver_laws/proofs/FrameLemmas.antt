@@ -507,7 +507,7 @@ offer_to_keeps all s e now client registration message request log (rebuilt r) a
 offer_under_keeps : (all : ℕ → List Frame) (s : State) (e : RunEnd) (now client registration : ℕ) (message : List ℕ)
     (request : LogRequest) (log : WholeLog) → offering_of s client registration ≡ Some request →
     log_at e.logs request.source ≡ Some log → Keeps all e →
-    MoveKeeps all s e (Offers now client registration message) request.source (offer_under s now message log (Some request))
+    MoveKeeps all s e (Offers now client registration message) request.source (offer_under s.settings.connection_timeout (Some request) now message log)
 offer_under_keeps all s e now client registration message request log asked found keeps =
     let step : Step = Offers now client registration message in
     cond_both (not (request.source == log.source)) _ _ (MoveKeeps all s e step request.source)
@@ -528,7 +528,7 @@ offered_keeps all s e now client registration message request None asked found k
 offered_keeps all s e now client registration message request (Some log) asked found keeps =
     subst
     (λ (o : Option LogRequest).
-    MoveKeeps all s e (Offers now client registration message) request.source (offer_under s now message log o))
+    MoveKeeps all s e (Offers now client registration message) request.source (offer_under s.settings.connection_timeout o now message log))
     (sym asked) (offer_under_keeps all s e now client registration message request log asked found keeps)
 
 offer_keeps : (all : ℕ → List Frame) (s : State) (e : RunEnd) (now client registration : ℕ) (message : List ℕ)

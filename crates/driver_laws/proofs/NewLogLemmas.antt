@@ -117,7 +117,7 @@ offer_to_source now timeout verdict message log (whole w) =
 offer_to_source now timeout verdict message log (rebuilt r) = refl
 
 offer_under_source : (s : State) (now : ℕ) (message : List ℕ) (log : WholeLog) (o : Option LogRequest) →
-    (offer_under s now message log o).after.source ≡ log.source
+    (offer_under s.settings.connection_timeout o now message log).after.source ≡ log.source
 offer_under_source s now message log None = refl
 offer_under_source s now message log (Some request) =
     cond_both (not (request.source == log.source)) _ _ (λ (move : Move). move.after.source ≡ log.source) (λ _. refl)

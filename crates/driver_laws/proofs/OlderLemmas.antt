@@ -132,16 +132,16 @@ offering_is s handle number request asks = rw (asks.client_is, asks.registration
 
 offer_is : (s : State) (e : RunEnd) (now handle number : ℕ) (message : List ℕ) (asked : LogRequest) (log : WholeLog) →
     offering_of s handle number ≡ Some asked → log_at e.logs asked.source ≡ Some log →
-    moved_by s e (Offer now handle number message) ≡ left_by e asked.source (offer_under s now message log (Some asked))
+    moved_by s e (Offer now handle number message) ≡ left_by e asked.source (offer_under s.settings.connection_timeout (Some asked) now message log)
 unfolding offer_move
 offer_is s e now handle number message asked log is found =
     ap (on_offered s e now handle number message) is
     ∙ log_moves e asked.source (offer_move s now handle number message) (OfferedAs Closed) log found
-    ∙ ap (λ (o : Option LogRequest). left_by e asked.source (offer_under s now message log o)) is
+    ∙ ap (λ (o : Option LogRequest). left_by e asked.source (offer_under s.settings.connection_timeout o now message log)) is
 
 under_let : (s : State) (e : RunEnd) (now : ℕ) (message : List ℕ) (asked : LogRequest) (log : WholeLog) (frames : Whole) →
     log_at e.logs asked.source ≡ Some log → log.whole ≡ whole frames →
-    offer_under s now message log (Some asked)
+    offer_under s.settings.connection_timeout (Some asked) now message log
     ≡ offer_let now s.settings.connection_timeout asked.decision.verdict message log frames
 under_let s e now message asked log frames found is =
     let own : (asked.source == log.source) ≡ true = eq-eqb asked.source log.source (sym (found_source asked.source log e.logs found)) in
@@ -155,7 +155,7 @@ left_under false false f x y z u v w first second third = third
 
 offer_granted : (s : State) (e : RunEnd) (now : ℕ) (message : List ℕ) (asked : LogRequest) (log : WholeLog) (frames : Whole) →
     log_at e.logs asked.source ≡ Some log → log.whole ≡ whole frames → asked.decision.verdict.allow ≡ true →
-    left_by e asked.source (offer_under s now message log (Some asked)) ≡ let_through_seen s e now message log frames
+    left_by e asked.source (offer_under s.settings.connection_timeout (Some asked) now message log) ≡ let_through_seen s e now message log frames
 offer_granted s e now message asked log frames found is allows =
     let put : left_by e asked.source (taken message log frames) ≡ taken_by_log e message log frames =
     ap (λ (n : ℕ). left_by e n (taken message log frames)) (sym (found_source asked.source log e.logs found)) in
@@ -170,7 +170,7 @@ offer_granted s e now message asked log frames found is allows =
 
 offer_denied : (s : State) (e : RunEnd) (now : ℕ) (message : List ℕ) (asked : LogRequest) (log : WholeLog) (frames : Whole) →
     log_at e.logs asked.source ≡ Some log → log.whole ≡ whole frames → asked.decision.verdict.allow ≡ false →
-    left_by e asked.source (offer_under s now message log (Some asked)) ≡ stays e (Denied asked.decision.verdict)
+    left_by e asked.source (offer_under s.settings.connection_timeout (Some asked) now message log) ≡ stays e (Denied asked.decision.verdict)
 offer_denied s e now message asked log frames found is denies =
     let denied : offer_let now s.settings.connection_timeout asked.decision.verdict message log frames
     ≡ answered log (Denied asked.decision.verdict) =

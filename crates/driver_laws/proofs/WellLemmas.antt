@@ -116,7 +116,7 @@ offer_to_well now timeout verdict message log (whole w) is well =
 offer_to_well now timeout verdict message log (rebuilt r) is well = well
 
 offer_under_well : (s : State) (now : ℕ) (message : List ℕ) (log : WholeLog) (o : Option LogRequest) → WellLog log →
-    WellLog (offer_under s now message log o).after
+    WellLog (offer_under s.settings.connection_timeout o now message log).after
 offer_under_well s now message log None well = well
 offer_under_well s now message log (Some request) well =
     cond_both (not (request.source == log.source)) _ _ (λ (move : Move). WellLog move.after) (λ _. well)

@@ -140,7 +140,7 @@ offers_holds carried now timeout verdict message log (whole w) holds =
 offers_holds carried now timeout verdict message log (rebuilt r) holds = holds
 
 offer_under_holds : (carried : ℕ → List (List ℕ)) (s : State) (now : ℕ) (message : List ℕ) (log : WholeLog)
-    (o : Option LogRequest) → Holds carried log → Holds carried (offer_under s now message log o).after
+    (o : Option LogRequest) → Holds carried log → Holds carried (offer_under s.settings.connection_timeout o now message log).after
 offer_under_holds carried s now message log None holds = holds
 offer_under_holds carried s now message log (Some request) holds =
     cond_both (not (request.source == log.source)) _ _ (λ (move : Move). Holds carried move.after) (λ _. holds)

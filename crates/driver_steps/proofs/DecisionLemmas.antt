@@ -83,12 +83,12 @@ offering_is s handle number request asks = rw (asks.client_is, asks.registration
 offer_is : (e : RunEnd) (now handle number : ℕ) (message : List ℕ) (asked : LogRequest) (log : WholeLog) →
     offering_of e.registry handle number ≡ Some asked → log_at e.logs asked.source ≡ Some log →
     moved e (Offer now handle number message)
-    ≡ left_by e asked.source (offer_under e.registry now message log (Some asked))
+    ≡ left_by e asked.source (offer_under e.registry.settings.connection_timeout (Some asked) now message log)
 unfolding offer_move
 offer_is e now handle number message asked log is found =
     ap (on_offered e.registry e now handle number message) is
     ∙ log_moves e asked.source (offer_move e.registry now handle number message) (OfferedAs Closed) log found
-    ∙ ap (λ (o : Option LogRequest). left_by e asked.source (offer_under e.registry now message log o)) is
+    ∙ ap (λ (o : Option LogRequest). left_by e asked.source (offer_under e.registry.settings.connection_timeout o now message log)) is
 
 own_log : (asked : LogRequest) (e : RunEnd) (log : WholeLog) → log_at e.logs asked.source ≡ Some log →
     (asked.source == log.source) ≡ true
@@ -97,7 +97,7 @@ own_log asked e log found = eq-eqb asked.source log.source (sym (found_source as
 -- under the request the log of frames that were appended is offered the message
 offer_under_let : (e : RunEnd) (now : ℕ) (message : List ℕ) (asked : LogRequest) (log : WholeLog) (frames : Whole) →
     log_at e.logs asked.source ≡ Some log → log.whole ≡ whole frames →
-    offer_under e.registry now message log (Some asked)
+    offer_under e.registry.settings.connection_timeout (Some asked) now message log
     ≡ offer_let now e.registry.settings.connection_timeout asked.decision.verdict message log frames
 offer_under_let e now message asked log frames found is =
     let own = own_log asked e log found in
@@ -105,7 +105,7 @@ offer_under_let e now message asked log frames found is =
 
 offer_granted : (e : RunEnd) (now : ℕ) (message : List ℕ) (asked : LogRequest) (log : WholeLog) (frames : Whole) →
     log_at e.logs asked.source ≡ Some log → log.whole ≡ whole frames → asked.decision.verdict.allow ≡ true →
-    left_by e asked.source (offer_under e.registry now message log (Some asked)) ≡ let_through e now message log frames
+    left_by e asked.source (offer_under e.registry.settings.connection_timeout (Some asked) now message log) ≡ let_through e now message log frames
 offer_granted e now message asked log frames found is allows =
     let put : left_by e asked.source (taken message log frames) ≡ taken_by_log e message log frames =
     ap (λ (n : ℕ). left_by e n (taken message log frames)) (sym (found_source asked.source log e.logs found)) in
@@ -120,7 +120,7 @@ offer_granted e now message asked log frames found is allows =
 
 offer_denied : (e : RunEnd) (now : ℕ) (message : List ℕ) (asked : LogRequest) (log : WholeLog) (frames : Whole) →
     log_at e.logs asked.source ≡ Some log → log.whole ≡ whole frames → asked.decision.verdict.allow ≡ false →
-    left_by e asked.source (offer_under e.registry now message log (Some asked))
+    left_by e asked.source (offer_under e.registry.settings.connection_timeout (Some asked) now message log)
     ≡ stays e (Denied asked.decision.verdict)
 offer_denied e now message asked log frames found is denies =
     let denied : offer_let now e.registry.settings.connection_timeout asked.decision.verdict message log frames

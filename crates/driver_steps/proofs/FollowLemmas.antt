@@ -185,7 +185,7 @@ offered_alike now timeout verdict message log (whole frames) is =
 offered_alike now timeout verdict message log (rebuilt frames) is = is_itself log
 
 offer_alike : (s : State) (now : ℕ) (message : List ℕ) (log : WholeLog) (o : Option LogRequest) →
-    IsAlike log (offer_under s now message log o).after
+    IsAlike log (offer_under s.settings.connection_timeout o now message log).after
 offer_alike s now message log None = is_itself log
 offer_alike s now message log (Some request) =
     let P : Move → Type 0 = λ move. IsAlike log move.after in

@@ -181,7 +181,7 @@ offers_orderly now timeout verdict message log (whole w) orderly =
     (λ _. cond_both (not (is_connected w now timeout)) _ _ P (λ _. orderly) (λ _. orderly)))
 
 offer_orderly : (s : State) (now : ℕ) (message : List ℕ) (log : WholeLog) (o : Option LogRequest) → OrderlyLog log →
-    OrderlyLog (offer_under s now message log o).after
+    OrderlyLog (offer_under s.settings.connection_timeout o now message log).after
 offer_orderly s now message log None orderly = orderly
 offer_orderly s now message log (Some request) orderly =
     cond_both (not (request.source == log.source)) _ _ (λ (move : Move). OrderlyLog move.after) (λ _. orderly)

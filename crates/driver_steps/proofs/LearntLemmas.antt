@@ -253,7 +253,7 @@ offers_unlearnt now timeout verdict message log (whole w) =
     (λ _. record { source_is = refl; learnt_is = refl })))
 
 offer_unlearnt : (s : State) (now : ℕ) (message : List ℕ) (log : WholeLog) (o : Option LogRequest) →
-    IsUnlearnt log (offer_under s now message log o).after
+    IsUnlearnt log (offer_under s.settings.connection_timeout o now message log).after
 offer_unlearnt s now message log None = unlearnt log
 offer_unlearnt s now message log (Some request) =
     cond_both (not (request.source == log.source)) _ _ (λ (move : Move). IsUnlearnt log move.after) (λ _. unlearnt log)

@@ -164,7 +164,7 @@ offers_allowed now timeout verdict message log (whole frames) position =
 offers_allowed now timeout verdict message log (rebuilt frames) position = λ other. absurd (cc other)
 
 put_is_allowed : (s : State) (now : ℕ) (message : List ℕ) (request : LogRequest) (log : WholeLog) (position : ℕ) →
-    (offer_under s now message log (Some request)).answer ≡ OfferedAs (PutAt position) →
+    (offer_under s.settings.connection_timeout (Some request) now message log).answer ≡ OfferedAs (PutAt position) →
     request.decision.verdict.allow ≡ true
 put_is_allowed s now message request log position =
     let P : Move → Type 0 = λ move. move.answer ≡ OfferedAs (PutAt position) → request.decision.verdict.allow ≡ true in
@@ -194,8 +194,8 @@ offer_found_owns granted more s e now client registration message request (Some 
     all_with (Owns more) request.source _ e.logs (all_more granted more is e.logs owned)
     (offer_under_owns granted more s now message log (offering_of s client registration) is there.holds
     (λ position answer frame has.
-    let told : (offer_under s now message log (Some request)).answer ≡ OfferedAs (PutAt position) =
-    ap (λ (o : Option LogRequest). (offer_under s now message log o).answer) (sym asked) ∙ answer in
+    let told : (offer_under s.settings.connection_timeout (Some request) now message log).answer ≡ OfferedAs (PutAt position) =
+    ap (λ (o : Option LogRequest). (offer_under s.settings.connection_timeout o now message log).answer) (sym asked) ∙ answer in
     let allows = put_is_allowed s now message request log position told in
     let same = put_into_found e message request log found there.source_is allows in
     puts position answer log.source frame (subst (λ (fs : List Frame). Contains fs frame) (sym same) has)))

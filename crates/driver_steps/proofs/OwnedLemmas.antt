@@ -262,7 +262,7 @@ offers_owns granted more now timeout verdict message log (rebuilt frames) same i
 
 pub offer_under_owns : (granted more : ℕ → List Frame) (s : State) (now : ℕ) (message : List ℕ) (log : WholeLog)
     (o : Option LogRequest) → IsMore granted more → Owns granted log →
-    LeavesOwned more message log (offer_under s now message log o)
+    LeavesOwned more message log (offer_under s.settings.connection_timeout o now message log)
 offer_under_owns granted more s now message log None is owns = λ puts. owns_more granted more is log owns
 offer_under_owns granted more s now message log (Some request) is owns =
     let P : Move → Type 0 = LeavesOwned more message log in

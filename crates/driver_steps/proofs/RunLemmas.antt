@@ -185,7 +185,7 @@ offers_told now timeout verdict message log (whole kept) =
 offers_told now timeout verdict message log (rebuilt kept) = tt
 
 pub offer_told : (s : State) (now : ℕ) (message : List ℕ) (log : WholeLog) (request : Option LogRequest) →
-    IsTold (offer_under s now message log request).answer
+    IsTold (offer_under s.settings.connection_timeout request now message log).answer
 offer_told s now message log None = tt
 offer_told s now message log (Some request) =
     told_cond (not (request.source == log.source)) _ _ tt

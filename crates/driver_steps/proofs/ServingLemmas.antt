@@ -83,7 +83,7 @@ offers_unlisted now timeout verdict message log (whole kept) =
 offers_unlisted now timeout verdict message log (rebuilt kept) = refl
 
 offer_unlisted : (s : State) (now : ℕ) (message : List ℕ) (log : WholeLog) (request : Option LogRequest) →
-    is_listed (offer_under s now message log request).answer ≡ false
+    is_listed (offer_under s.settings.connection_timeout request now message log).answer ≡ false
 offer_unlisted s now message log None = refl
 offer_unlisted s now message log (Some request) =
     unlisted_cond (not (request.source == log.source)) _ _ refl

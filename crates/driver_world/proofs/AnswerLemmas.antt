@@ -6,8 +6,9 @@ use Rattle.driver_steps.specs.EndDecisions.{decided_unless, denials_unless}
 use Rattle.driver_steps.specs.Ends.{RunEnd as DriverEnd, Moved as DriverMoved, IsAnswerOf as DriverAnswer, after_by as driver_after}
 use Rattle.driver_world.specs.declared.actor.Actor.{Actor}
 use Rattle.driver_world.specs.declared.seats.Seat.{Seat}
+use Rattle.driver_world.specs.Audits.{Decided}
 use Rattle.driver_world.specs.Ends.{RunEnd, Moved, IsAnswerOf, after_by}
-use Rattle.driver_world.specs.Standing.{seats_left}
+use Rattle.driver_world.specs.Standing.{decided_left, seats_left}
 use Rattle.driver_world.specs.Views.{Seats, seated}
 use Rattle.policy_core.specs.declared.decision.Decision.{Decision}
 
@@ -21,60 +22,61 @@ pub record Other (answer : Answer) : Type 0 where
   pub for_world : (what : Moved) → answer ≡ what.answer → IsAnswerOf what answer
   pub driver_left : (e : DriverEnd) (what : DriverMoved) → driver_after e what answer ≡ what.after
   pub left : (e : RunEnd) (what : Moved) → after_by e what answer ≡ what.after
+  pub decided : (before after : Decided) → decided_left answer before after ≡ after
   pub seats : (actor : Actor) (seat : Seat) (seats : Seats) → seats_left actor seat answer seats ≡ seated actor seat seats
 
 -- what holds of want of memory and of any other answer holds of all
 pub by_answer : (P : Answer → Type 0) → P NoMemory → ((answer : Answer) → Other answer → P answer) → (answer : Answer) → P answer
 by_answer P none other NoMemory = none
 by_answer P none other (Attached number messages) =
-    other (Attached number messages) (record { unless = λ d. refl; denials = λ l. refl; drivers = λ w is. is; for_driver = λ w is. is; worlds = λ w is. is; for_world = λ w is. is; driver_left = λ e w. refl; left = λ e w. refl; seats = λ a t s. refl })
+    other (Attached number messages) (record { unless = λ d. refl; denials = λ l. refl; drivers = λ w is. is; for_driver = λ w is. is; worlds = λ w is. is; for_world = λ w is. is; driver_left = λ e w. refl; left = λ e w. refl; decided = λ b a. refl; seats = λ a t s. refl })
 by_answer P none other (Full messages) =
-    other (Full messages) (record { unless = λ d. refl; denials = λ l. refl; drivers = λ w is. is; for_driver = λ w is. is; worlds = λ w is. is; for_world = λ w is. is; driver_left = λ e w. refl; left = λ e w. refl; seats = λ a t s. refl })
+    other (Full messages) (record { unless = λ d. refl; denials = λ l. refl; drivers = λ w is. is; for_driver = λ w is. is; worlds = λ w is. is; for_world = λ w is. is; driver_left = λ e w. refl; left = λ e w. refl; decided = λ b a. refl; seats = λ a t s. refl })
 by_answer P none other (Stopped messages) =
-    other (Stopped messages) (record { unless = λ d. refl; denials = λ l. refl; drivers = λ w is. is; for_driver = λ w is. is; worlds = λ w is. is; for_world = λ w is. is; driver_left = λ e w. refl; left = λ e w. refl; seats = λ a t s. refl })
+    other (Stopped messages) (record { unless = λ d. refl; denials = λ l. refl; drivers = λ w is. is; for_driver = λ w is. is; worlds = λ w is. is; for_world = λ w is. is; driver_left = λ e w. refl; left = λ e w. refl; decided = λ b a. refl; seats = λ a t s. refl })
 by_answer P none other (PolicyInForce epoch messages) =
-    other (PolicyInForce epoch messages) (record { unless = λ d. refl; denials = λ l. refl; drivers = λ w is. is; for_driver = λ w is. is; worlds = λ w is. is; for_world = λ w is. is; driver_left = λ e w. refl; left = λ e w. refl; seats = λ a t s. refl })
+    other (PolicyInForce epoch messages) (record { unless = λ d. refl; denials = λ l. refl; drivers = λ w is. is; for_driver = λ w is. is; worlds = λ w is. is; for_world = λ w is. is; driver_left = λ e w. refl; left = λ e w. refl; decided = λ b a. refl; seats = λ a t s. refl })
 by_answer P none other (PolicyFull messages) =
-    other (PolicyFull messages) (record { unless = λ d. refl; denials = λ l. refl; drivers = λ w is. is; for_driver = λ w is. is; worlds = λ w is. is; for_world = λ w is. is; driver_left = λ e w. refl; left = λ e w. refl; seats = λ a t s. refl })
+    other (PolicyFull messages) (record { unless = λ d. refl; denials = λ l. refl; drivers = λ w is. is; for_driver = λ w is. is; worlds = λ w is. is; for_world = λ w is. is; driver_left = λ e w. refl; left = λ e w. refl; decided = λ b a. refl; seats = λ a t s. refl })
 by_answer P none other (Imaged number messages) =
-    other (Imaged number messages) (record { unless = λ d. refl; denials = λ l. refl; drivers = λ w is. is; for_driver = λ w is. is; worlds = λ w is. is; for_world = λ w is. is; driver_left = λ e w. refl; left = λ e w. refl; seats = λ a t s. refl })
+    other (Imaged number messages) (record { unless = λ d. refl; denials = λ l. refl; drivers = λ w is. is; for_driver = λ w is. is; worlds = λ w is. is; for_world = λ w is. is; driver_left = λ e w. refl; left = λ e w. refl; decided = λ b a. refl; seats = λ a t s. refl })
 by_answer P none other (Unimaged why messages) =
-    other (Unimaged why messages) (record { unless = λ d. refl; denials = λ l. refl; drivers = λ w is. is; for_driver = λ w is. is; worlds = λ w is. is; for_world = λ w is. is; driver_left = λ e w. refl; left = λ e w. refl; seats = λ a t s. refl })
+    other (Unimaged why messages) (record { unless = λ d. refl; denials = λ l. refl; drivers = λ w is. is; for_driver = λ w is. is; worlds = λ w is. is; for_world = λ w is. is; driver_left = λ e w. refl; left = λ e w. refl; decided = λ b a. refl; seats = λ a t s. refl })
 by_answer P none other (Received words) =
-    other (Received words) (record { unless = λ d. refl; denials = λ l. refl; drivers = λ w is. is; for_driver = λ w is. is; worlds = λ w is. is; for_world = λ w is. is; driver_left = λ e w. refl; left = λ e w. refl; seats = λ a t s. refl })
+    other (Received words) (record { unless = λ d. refl; denials = λ l. refl; drivers = λ w is. is; for_driver = λ w is. is; worlds = λ w is. is; for_world = λ w is. is; driver_left = λ e w. refl; left = λ e w. refl; decided = λ b a. refl; seats = λ a t s. refl })
 by_answer P none other Heard =
-    other Heard (record { unless = λ d. refl; denials = λ l. refl; drivers = λ w is. is; for_driver = λ w is. is; worlds = λ w is. is; for_world = λ w is. is; driver_left = λ e w. refl; left = λ e w. refl; seats = λ a t s. refl })
+    other Heard (record { unless = λ d. refl; denials = λ l. refl; drivers = λ w is. is; for_driver = λ w is. is; worlds = λ w is. is; for_world = λ w is. is; driver_left = λ e w. refl; left = λ e w. refl; decided = λ b a. refl; seats = λ a t s. refl })
 by_answer P none other (Limited position) =
-    other (Limited position) (record { unless = λ d. refl; denials = λ l. refl; drivers = λ w is. is; for_driver = λ w is. is; worlds = λ w is. is; for_world = λ w is. is; driver_left = λ e w. refl; left = λ e w. refl; seats = λ a t s. refl })
+    other (Limited position) (record { unless = λ d. refl; denials = λ l. refl; drivers = λ w is. is; for_driver = λ w is. is; worlds = λ w is. is; for_world = λ w is. is; driver_left = λ e w. refl; left = λ e w. refl; decided = λ b a. refl; seats = λ a t s. refl })
 by_answer P none other Elicited =
-    other Elicited (record { unless = λ d. refl; denials = λ l. refl; drivers = λ w is. is; for_driver = λ w is. is; worlds = λ w is. is; for_world = λ w is. is; driver_left = λ e w. refl; left = λ e w. refl; seats = λ a t s. refl })
+    other Elicited (record { unless = λ d. refl; denials = λ l. refl; drivers = λ w is. is; for_driver = λ w is. is; worlds = λ w is. is; for_world = λ w is. is; driver_left = λ e w. refl; left = λ e w. refl; decided = λ b a. refl; seats = λ a t s. refl })
 by_answer P none other Idle =
-    other Idle (record { unless = λ d. refl; denials = λ l. refl; drivers = λ w is. is; for_driver = λ w is. is; worlds = λ w is. is; for_world = λ w is. is; driver_left = λ e w. refl; left = λ e w. refl; seats = λ a t s. refl })
+    other Idle (record { unless = λ d. refl; denials = λ l. refl; drivers = λ w is. is; for_driver = λ w is. is; worlds = λ w is. is; for_world = λ w is. is; driver_left = λ e w. refl; left = λ e w. refl; decided = λ b a. refl; seats = λ a t s. refl })
 by_answer P none other (SentTo bytes outlets) =
-    other (SentTo bytes outlets) (record { unless = λ d. refl; denials = λ l. refl; drivers = λ w is. is; for_driver = λ w is. is; worlds = λ w is. is; for_world = λ w is. is; driver_left = λ e w. refl; left = λ e w. refl; seats = λ a t s. refl })
+    other (SentTo bytes outlets) (record { unless = λ d. refl; denials = λ l. refl; drivers = λ w is. is; for_driver = λ w is. is; worlds = λ w is. is; for_world = λ w is. is; driver_left = λ e w. refl; left = λ e w. refl; decided = λ b a. refl; seats = λ a t s. refl })
 by_answer P none other (Resent to datagrams) =
-    other (Resent to datagrams) (record { unless = λ d. refl; denials = λ l. refl; drivers = λ w is. is; for_driver = λ w is. is; worlds = λ w is. is; for_world = λ w is. is; driver_left = λ e w. refl; left = λ e w. refl; seats = λ a t s. refl })
+    other (Resent to datagrams) (record { unless = λ d. refl; denials = λ l. refl; drivers = λ w is. is; for_driver = λ w is. is; worlds = λ w is. is; for_world = λ w is. is; driver_left = λ e w. refl; left = λ e w. refl; decided = λ b a. refl; seats = λ a t s. refl })
 by_answer P none other (Reported to datagrams) =
-    other (Reported to datagrams) (record { unless = λ d. refl; denials = λ l. refl; drivers = λ w is. is; for_driver = λ w is. is; worlds = λ w is. is; for_world = λ w is. is; driver_left = λ e w. refl; left = λ e w. refl; seats = λ a t s. refl })
+    other (Reported to datagrams) (record { unless = λ d. refl; denials = λ l. refl; drivers = λ w is. is; for_driver = λ w is. is; worlds = λ w is. is; for_world = λ w is. is; driver_left = λ e w. refl; left = λ e w. refl; decided = λ b a. refl; seats = λ a t s. refl })
 by_answer P none other (Dropped fault) =
-    other (Dropped fault) (record { unless = λ d. refl; denials = λ l. refl; drivers = λ w is. is; for_driver = λ w is. is; worlds = λ w is. is; for_world = λ w is. is; driver_left = λ e w. refl; left = λ e w. refl; seats = λ a t s. refl })
+    other (Dropped fault) (record { unless = λ d. refl; denials = λ l. refl; drivers = λ w is. is; for_driver = λ w is. is; worlds = λ w is. is; for_world = λ w is. is; driver_left = λ e w. refl; left = λ e w. refl; decided = λ b a. refl; seats = λ a t s. refl })
 by_answer P none other (Replies messages) =
-    other (Replies messages) (record { unless = λ d. refl; denials = λ l. refl; drivers = λ w is. is; for_driver = λ w is. is; worlds = λ w is. is; for_world = λ w is. is; driver_left = λ e w. refl; left = λ e w. refl; seats = λ a t s. refl })
+    other (Replies messages) (record { unless = λ d. refl; denials = λ l. refl; drivers = λ w is. is; for_driver = λ w is. is; worlds = λ w is. is; for_world = λ w is. is; driver_left = λ e w. refl; left = λ e w. refl; decided = λ b a. refl; seats = λ a t s. refl })
 by_answer P none other (OfferedAs offered) =
-    other (OfferedAs offered) (record { unless = λ d. refl; denials = λ l. refl; drivers = λ w is. is; for_driver = λ w is. is; worlds = λ w is. is; for_world = λ w is. is; driver_left = λ e w. refl; left = λ e w. refl; seats = λ a t s. refl })
+    other (OfferedAs offered) (record { unless = λ d. refl; denials = λ l. refl; drivers = λ w is. is; for_driver = λ w is. is; worlds = λ w is. is; for_world = λ w is. is; driver_left = λ e w. refl; left = λ e w. refl; decided = λ b a. refl; seats = λ a t s. refl })
 by_answer P none other (Polled fragments) =
-    other (Polled fragments) (record { unless = λ d. refl; denials = λ l. refl; drivers = λ w is. is; for_driver = λ w is. is; worlds = λ w is. is; for_world = λ w is. is; driver_left = λ e w. refl; left = λ e w. refl; seats = λ a t s. refl })
+    other (Polled fragments) (record { unless = λ d. refl; denials = λ l. refl; drivers = λ w is. is; for_driver = λ w is. is; worlds = λ w is. is; for_world = λ w is. is; driver_left = λ e w. refl; left = λ e w. refl; decided = λ b a. refl; seats = λ a t s. refl })
 by_answer P none other IsGone =
-    other IsGone (record { unless = λ d. refl; denials = λ l. refl; drivers = λ w is. is; for_driver = λ w is. is; worlds = λ w is. is; for_world = λ w is. is; driver_left = λ e w. refl; left = λ e w. refl; seats = λ a t s. refl })
+    other IsGone (record { unless = λ d. refl; denials = λ l. refl; drivers = λ w is. is; for_driver = λ w is. is; worlds = λ w is. is; for_world = λ w is. is; driver_left = λ e w. refl; left = λ e w. refl; decided = λ b a. refl; seats = λ a t s. refl })
 by_answer P none other (Counters rows) =
-    other (Counters rows) (record { unless = λ d. refl; denials = λ l. refl; drivers = λ w is. is; for_driver = λ w is. is; worlds = λ w is. is; for_world = λ w is. is; driver_left = λ e w. refl; left = λ e w. refl; seats = λ a t s. refl })
+    other (Counters rows) (record { unless = λ d. refl; denials = λ l. refl; drivers = λ w is. is; for_driver = λ w is. is; worlds = λ w is. is; for_world = λ w is. is; driver_left = λ e w. refl; left = λ e w. refl; decided = λ b a. refl; seats = λ a t s. refl })
 by_answer P none other (ValueIs number) =
-    other (ValueIs number) (record { unless = λ d. refl; denials = λ l. refl; drivers = λ w is. is; for_driver = λ w is. is; worlds = λ w is. is; for_world = λ w is. is; driver_left = λ e w. refl; left = λ e w. refl; seats = λ a t s. refl })
+    other (ValueIs number) (record { unless = λ d. refl; denials = λ l. refl; drivers = λ w is. is; for_driver = λ w is. is; worlds = λ w is. is; for_world = λ w is. is; driver_left = λ e w. refl; left = λ e w. refl; decided = λ b a. refl; seats = λ a t s. refl })
 by_answer P none other (Denied verdict) =
-    other (Denied verdict) (record { unless = λ d. refl; denials = λ l. refl; drivers = λ w is. is; for_driver = λ w is. is; worlds = λ w is. is; for_world = λ w is. is; driver_left = λ e w. refl; left = λ e w. refl; seats = λ a t s. refl })
+    other (Denied verdict) (record { unless = λ d. refl; denials = λ l. refl; drivers = λ w is. is; for_driver = λ w is. is; worlds = λ w is. is; for_world = λ w is. is; driver_left = λ e w. refl; left = λ e w. refl; decided = λ b a. refl; seats = λ a t s. refl })
 by_answer P none other UnknownCounter =
-    other UnknownCounter (record { unless = λ d. refl; denials = λ l. refl; drivers = λ w is. is; for_driver = λ w is. is; worlds = λ w is. is; for_world = λ w is. is; driver_left = λ e w. refl; left = λ e w. refl; seats = λ a t s. refl })
+    other UnknownCounter (record { unless = λ d. refl; denials = λ l. refl; drivers = λ w is. is; for_driver = λ w is. is; worlds = λ w is. is; for_world = λ w is. is; driver_left = λ e w. refl; left = λ e w. refl; decided = λ b a. refl; seats = λ a t s. refl })
 by_answer P none other BadStep =
-    other BadStep (record { unless = λ d. refl; denials = λ l. refl; drivers = λ w is. is; for_driver = λ w is. is; worlds = λ w is. is; for_world = λ w is. is; driver_left = λ e w. refl; left = λ e w. refl; seats = λ a t s. refl })
+    other BadStep (record { unless = λ d. refl; denials = λ l. refl; drivers = λ w is. is; for_driver = λ w is. is; worlds = λ w is. is; for_world = λ w is. is; driver_left = λ e w. refl; left = λ e w. refl; decided = λ b a. refl; seats = λ a t s. refl })
 by_answer P none other WrongClient =
-    other WrongClient (record { unless = λ d. refl; denials = λ l. refl; drivers = λ w is. is; for_driver = λ w is. is; worlds = λ w is. is; for_world = λ w is. is; driver_left = λ e w. refl; left = λ e w. refl; seats = λ a t s. refl })
+    other WrongClient (record { unless = λ d. refl; denials = λ l. refl; drivers = λ w is. is; for_driver = λ w is. is; worlds = λ w is. is; for_world = λ w is. is; driver_left = λ e w. refl; left = λ e w. refl; decided = λ b a. refl; seats = λ a t s. refl })

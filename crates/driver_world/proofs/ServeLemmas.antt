@@ -1,6 +1,6 @@
 -- A step that serves the driver serves the world, where its actor looks at a registry that it may look at, and the actors are
 -- told what was decided.
-use Rattle.std.proofs.Common.{◌≡◌, ℕ, ◌+◌, ◌==◌, max, false, true, List, [], ◌∷◌, ◌++◌, length-append, Option, Some, None, Result, Ok, Err, ⊎_elim, refl, sym, ap, subst, ◌∙◌}
+use Rattle.std.proofs.Common.{◌≡◌, ℕ, ◌+◌, ◌==◌, false, true, List, [], ◌∷◌, ◌++◌, length-append, Option, Some, None, Result, Ok, Err, ⊎_elim, refl, sym, ap, subst, ◌∙◌}
 use Rattle.channel_uri.specs.declared.address.Address.{Address}
 use Rattle.driver_core.specs.declared.state.event.Event.{Event}
 use Rattle.driver_core.specs.declared.state.event.Event.TheVariants.{Setup as SetUp}
@@ -11,22 +11,20 @@ use Rattle.driver_core.specs.declared.state.outcome.Response.TheVariants as resp
 use Rattle.driver_core.specs.declared.state.replies.Message.{Message}
 use Rattle.driver_core.specs.Conduct.{outcome_of}
 use Rattle.driver_core.specs.LeftOut.{left_out}
-use Rattle.driver_core.specs.Listing.{value}
 use Rattle.driver_core.specs.State.{State}
 use Rattle.log_steps.specs.declared.answer.Answer.{Answer}
 use Rattle.log_steps.specs.declared.answer.Answer.TheVariants.{BadStep, NoMemory}
 use Rattle.driver_steps.specs.declared.step.Step.{Step}
-use Rattle.driver_steps.specs.declared.step.Step.TheVariants.{Conductor as Conducts, Packet, Offer, Poll, Send, Image, List as Lists, Value}
+use Rattle.driver_steps.specs.declared.step.Step.TheVariants.{Conductor as Conducts, Packet, Send, Image, List as Lists}
 use Rattle.log_steps.specs.declared.answered.Came.TheVariants as came
 use Rattle.log_steps.specs.declared.answered.Answered.{Answered}
 use Rattle.log_steps.specs.Answers.{answer_of, answered_by}
 use Rattle.driver_steps.specs.Coming.{Comes, ComesAs, content_decided}
-use Rattle.driver_steps.specs.EndDecisions.{DecidesAs, DecidesUnless, LeavesOut, decided_unless, denials_unless, offer_decided, poll_decided, under}
-use Rattle.log_steps.specs.Decided.{shown_decision}
-use Rattle.driver_steps.specs.Ends.{after_by as driver_after, conducted as driver_conducted, inputs_of, IsAnswerOf as DriverAnswers, log_at, looks_at, moved as driver_moved, moved_by, moved_on, on_log, on_packet, RunEnd as DriverEnd}
+use Rattle.driver_steps.specs.EndDecisions.{DecidesAs, DecidesUnless, LeavesOut, decided_unless, denials_unless, under}
+use Rattle.driver_steps.specs.Ends.{after_by as driver_after, conducted as driver_conducted, inputs_of, IsAnswerOf as DriverAnswers, log_at, looks_at, moved as driver_moved, moved_by, moved_on, on_log, on_packet, Moved as DriverMoved, RunEnd as DriverEnd}
 use Rattle.driver_steps.specs.OpenLogs.{inputs_held}
 use Rattle.driver_steps.specs.Laws.{event_in}
-use Rattle.driver_steps.specs.StepMemory.{HasMemory, HasMemoryBy}
+use Rattle.driver_steps.specs.StepMemory.{HasMemory, HasMemoryBy, takes_memory as takes}
 use Rattle.log_steps.specs.Moves.{Move, WholeLog}
 use Rattle.driver_steps.specs.Runs.{read_by}
 use Rattle.log_steps.specs.Sending.{send_move}
@@ -39,9 +37,9 @@ use Rattle.driver_world.specs.Audits.{Audits, Decided, Tells, decided_by, decide
 use Rattle.driver_world.specs.Ends.{RunEnd, Moved, IsAnswerOf, after_by, bad, conducted, looked, looked_at, moved, moved_as, seats_by, seen_by}
 use Rattle.driver_world.specs.Memory.{has_as, looked_has}
 use Rattle.driver_world.specs.Past.{shown_state}
-use Rattle.driver_world.specs.Standing.{Held, IsLook, IsNoLook, Serves, Sits, StandsForEnd, seats_left}
+use Rattle.driver_world.specs.Standing.{Acts, Held, IsLook, IsNoLook, Serves, Sits, StandsForEnd, decided_left, seats_left}
 use Rattle.driver_world.specs.Views.{Looks, Past, Seats, actor_of, at_moment, attached_at, is_out, moment_of, newest_of, older_at, reader_of, seat_of, seated, view_or}
-use Rattle.driver_world.proofs.AnswerLemmas.{Other, by_answer}
+use Rattle.driver_world.proofs.AnswerLemmas.{by_answer}
 use Rattle.driver_world.proofs.AuditLemmas.{untold}
 use Rattle.frame_codec.specs.declared.fault.BadPacket.{BadPacket}
 use Rattle.frame_codec.specs.declared.setup.Setup.{Setup}
@@ -99,42 +97,34 @@ bad_has : (e : RunEnd) (step : Step) (older : Option State) → looked_has e ste
 bad_has e step None = tt
 bad_has e step (Some older) = tt
 
-pub not_looked : (held : Held) (actor : Actor) (view : Option ℕ) (step : Step) (answer : Answer) → actor_of step ≡ actor → Looks actor →
-    IsNoLook held.past (seat_of actor held.seats) view answer →
+pub not_looked : (held : Held) (view : Option ℕ) (step : Step) (answer : Answer) → Looks (actor_of step) →
+    IsNoLook held.past (seat_of (actor_of step) held.seats) view answer →
     Serves held held (record { view = view; step = step }) answer
-not_looked held actor view step answer is looks none =
+not_looked held view step answer looks none =
     ⊎_elim (λ out. record {
       on = λ e stands.
-          let at : is_out (newest_of e.past) (seat_of actor e.seats) (view_or (newest_of e.past) view) ≡ true =
+          let at : is_out (newest_of e.past) (seat_of (actor_of step) e.seats) (view_or (newest_of e.past) view) ≡ true =
           rw (← stands.past, ← stands.seats) out.1 in
-          let comes : moved e (record { view = view; step = step }) ≡ bad e = rw is (bad_looked e actor view step looks at) in
-          rw (out.0) (rw comes (refl, stands));
+          rw (out.0, bad_looked e (actor_of step) view step looks at) (refl, stands);
       without_memory = λ e stands.
-          rw (out.0, is) (has_looked e actor view step BadStep looks (bad_has e (at_moment (seat_of actor e.seats).moment step) (older_at e.past (view_or (newest_of e.past) view))));
+          rw (out.0) (has_looked e (actor_of step) view step BadStep looks (bad_has e (at_moment (seat_of (actor_of step) e.seats).moment step) (older_at e.past (view_or (newest_of e.past) view))));
     })
     (λ refused. record {
       on = λ e stands. rw (refused.0) (tt, stands);
       without_memory = λ e stands.
           let older : (view_or (newest_of e.past) view == newest_of e.past) ≡ false = rw (← stands.past) refused.2 in
-          rw (is) (has_looked e actor view step answer looks (rw older tt));
+          has_looked e (actor_of step) view step answer looks (rw older tt);
     })
     none
 
 -- ---- a step by that registry
-
--- what is kept where the step is refused memory, and where it is told any other answer
-pub record Keeps (old : Held) (left : Audits) (older : Option State) (step : Step) (answer : Answer) (e : RunEnd) : Type 0 where
-  pub refused : answer ≡ NoMemory → left ≡ old.audits
-  pub told :
-      Other answer → answer ≡ (moved_by (read_by e.driver older) e.driver step).answer →
-      left ≡ kept_all (decided_by (seen_by e.driver older) step e.decided)
 
 -- so the world serves
 Serving : (old : Held) (driver : HeldDriver) (left : Audits) (actor : Actor) (k : ℕ) (step : Step) (e : RunEnd) → Answer → Type 0
 Serving old driver left actor k step e answer =
     DriverAnswers (moved_by (read_by e.driver (older_at e.past k)) e.driver step) answer →
     DriverStands driver (driver_after e.driver (moved_by (read_by e.driver (older_at e.past k)) e.driver step) answer) →
-    Keeps old left (older_at e.past k) step answer e →
+    left ≡ kept_all (decided_left answer e.decided (decided_by (seen_by e.driver (older_at e.past k)) step e.decided)) →
     IsAnswerOf (looked e actor k step) answer
     × StandsForEnd (record {
       driver = driver;
@@ -148,8 +138,8 @@ serving : (old : Held) (driver : HeldDriver) (left : Audits) (actor : Actor) (k 
 unfolding Serving
 serving old driver left actor k step e stands answer =
     by_answer (Serving old driver left actor k step e)
-    (λ is there keeps. (tt, record { driver = there; audits = keeps.refused refl ∙ stands.audits; past = stands.past; seats = stands.seats }))
-    (λ one other is there keeps.
+    (λ is there kept. (tt, record { driver = there; audits = kept; past = stands.past; seats = stands.seats }))
+    (λ one other is there kept.
     let same : one ≡ (moved_by (read_by e.driver (older_at e.past k)) e.driver step).answer = other.drivers (moved_by (read_by e.driver (older_at e.past k)) e.driver step) is in
     let stays : DriverStands driver (moved_by (read_by e.driver (older_at e.past k)) e.driver step).after =
     subst (λ (d : DriverEnd). DriverStands driver d) (other.driver_left e.driver (moved_by (read_by e.driver (older_at e.past k)) e.driver step)) there in (
@@ -162,7 +152,7 @@ serving old driver left actor k step e stands answer =
       }) next) (sym (other.left e (looked e actor k step)))
           (record {
             driver = stays;
-            audits = keeps.told other same;
+            audits = kept ∙ ap (λ (d : Decided). kept_all d) (other.decided e.decided (decided_by (seen_by e.driver (older_at e.past k)) step e.decided));
             past = stands.past;
             seats =
                 other.seats actor (record { view = k; moment = moment_of step }) old.seats
@@ -183,38 +173,45 @@ served_by : (old new : HeldDriver) (older : Option State) (step : Step) (answer 
 served_by old new older step answer e stands serves =
     subst (λ (s : State). DriverServes (looks_at s older) old new step answer) stands.registry serves
 
+pub looked_served : (old middle new : Held) (view : Option ℕ) (step : Step) (look : Look) (answer : Answer) → Looks (actor_of step) →
+    IsLook old.past (seat_of (actor_of step) old.seats) view look →
+    Acts (shown_state look.older) old middle (at_moment look.moment step) answer →
+    Sits middle new (actor_of step) look.view (moment_of (at_moment look.moment step)) answer →
+    Serves old new (record { view = view; step = step }) answer
+unfolding Serving
+looked_served old middle new view step look answer looks is acts sits = record {
+  on = λ e stands.
+      let here : IsLook e.past (seat_of (actor_of step) e.seats) view look = rw (← stands.past, ← stands.seats) is in
+      let there = served_by old.driver middle.driver (shown_state look.older) (at_moment look.moment step) answer e.driver stands.driver acts.serves in
+      let done = there.on e.driver stands.driver in
+      let served = serving old middle.driver middle.audits (actor_of step) look.view (at_moment look.moment step) e stands answer
+      (rw (← here.older_is) done.0) (rw (← here.older_is) done.1) (rw (← here.older_is) (acts.reports e stands)) in
+      let left = sits ∙ ap (λ (h : Held). let after : Held = record h { seats = seats_left (actor_of step) (record { view = look.view; moment = moment_of (at_moment look.moment step) }) answer h.seats } in after) acts.stays in
+      rw (looked_there e (actor_of step) view step look looks here, left) served;
+  without_memory = λ e stands.
+      let here : IsLook e.past (seat_of (actor_of step) e.seats) view look = rw (← stands.past, ← stands.seats) is in
+      let there = served_by old.driver middle.driver (shown_state look.older) (at_moment look.moment step) answer e.driver stands.driver acts.serves in
+      has_there e (actor_of step) view step look answer looks here
+      (takes_memory e (at_moment look.moment step) answer (shown_state look.older)
+      (there.without_memory e.driver stands.driver));
+}
+
+-- ---- what is reported of it
+
 -- the world of which that is left
 abbrev pub left_of : Held → HeldDriver → Audits → Held
 left_of old driver left = record old { driver = driver; audits = left }
 
-pub looked_served : (old new : Held) (driver : HeldDriver) (left : Audits) (actor : Actor) (view : Option ℕ) (step : Step) (look : Look)
-    (answer : Answer) → actor_of step ≡ actor → Looks actor → IsLook old.past (seat_of actor old.seats) view look →
-    DriverServes (looks_at old.driver.registry (shown_state look.older)) old.driver driver (at_moment look.moment step) answer →
-    ((e : RunEnd) → StandsForEnd old e → Keeps old left (shown_state look.older) (at_moment look.moment step) answer e) →
-    Sits (left_of old driver left) new actor look.view (moment_of (at_moment look.moment step)) answer →
-    Serves old new (record { view = view; step = step }) answer
-unfolding Serving
-looked_served old new driver left actor view step look answer actor_is looks is serves keeps sits = record {
-  on = λ e stands.
-      let here : IsLook e.past (seat_of actor e.seats) view look = rw (← stands.past, ← stands.seats) is in
-      let comes : moved e (record { view = view; step = step }) ≡ looked e actor look.view (at_moment look.moment step) =
-      rw actor_is (looked_there e actor view step look looks here) in
-      let there = served_by old.driver driver (shown_state look.older) (at_moment look.moment step) answer e.driver stands.driver serves in
-      let done = there.on e.driver stands.driver in
-      let kept : Keeps old left (older_at e.past look.view) (at_moment look.moment step) answer e = rw (← here.older_is) (keeps e stands) in
-      let served = serving old driver left actor look.view (at_moment look.moment step) e stands answer
-      (rw (← here.older_is) done.0) (rw (← here.older_is) done.1) kept in
-      rw (comes, sits) served;
-  without_memory = λ e stands.
-      let here : IsLook e.past (seat_of actor e.seats) view look = rw (← stands.past, ← stands.seats) is in
-      let there = served_by old.driver driver (shown_state look.older) (at_moment look.moment step) answer e.driver stands.driver serves in
-      rw actor_is
-      (has_there e actor view step look answer looks here
-      (takes_memory e (at_moment look.moment step) answer (shown_state look.older)
-      (there.without_memory e.driver stands.driver)));
+tells_acts : (old : Held) (driver : HeldDriver) (left : Audits) (older : Option State) (step : Step) (answer : Answer)
+    (more : Decided → Decided) → DriverServes (looks_at old.driver.registry older) old.driver driver step answer → Tells old.audits left more →
+    ((e : RunEnd) → StandsForEnd old e →
+    more e.decided ≡ decided_left answer e.decided (decided_by (seen_by e.driver older) step e.decided)) →
+    Acts older old (left_of old driver left) step answer
+tells_acts old driver left older step answer more serves tells is = record {
+  serves = serves;
+  reports = λ e stands. tells.on e.decided stands.audits ∙ ap (λ (d : Decided). kept_all d) (is e stands);
+  stays = refl;
 }
-
--- ---- what its actor sees
 
 -- the driver under the registry that is looked at
 abbrev seen_held : HeldDriver → Option State → HeldDriver
@@ -225,109 +222,70 @@ seen_stands : (held : HeldDriver) (older : Option State) (e : DriverEnd) → Dri
 seen_stands held older e stands =
     record { registry = ap (λ (s : State). looks_at s older) stands.registry; logs = stands.logs }
 
--- ---- an offer
+-- ---- one decision
 
-wants : (answer : Answer) → HasMemoryBy false answer → answer ≡ NoMemory → ⊥
-wants answer has is = let no : HasMemoryBy false NoMemory = subst (HasMemoryBy false) is has in absurd (cc)
+told_unless : (answer : Answer) (actor : Actor) (what : Option Decision) (all : Decided) →
+    told_one actor (decided_unless answer what) all ≡ decided_left answer all (told_one actor what all)
+told_unless answer actor what all =
+    by_answer (λ a. told_one actor (decided_unless a what) all ≡ decided_left a all (told_one actor what all)) refl
+    (λ one other. ap (λ d. told_one actor d all) (other.unless what) ∙ sym (other.decided all (told_one actor what all)))
+    answer
 
-pub offer_served : (old new : Held) (driver : HeldDriver) (left : Audits) (view : Option ℕ) (now client registration : ℕ) (message : List ℕ)
-    (look : Look) (answer : Answer) (decision : Option Decision) → IsLook old.past (seat_of (Client client) old.seats) view look →
-    DriverServes (looks_at old.driver.registry (shown_state look.older)) old.driver driver (Offer (max now look.moment) client registration message) answer →
-    DecidesAs (seen_held old.driver (shown_state look.older)) (λ e. offer_decided e client registration) decision →
-    Tells old.audits left (told_one (Client client) decision) →
-    Sits (left_of old driver left) new (Client client) look.view (max now look.moment) answer →
-    Serves old new (record { view = view; step = Offer now client registration message }) answer
-unfolding decided_by
-offer_served old new driver left view now client registration message look answer decision is reads decides tells sits =
-    looked_served old new driver left (Client client) view (Offer now client registration message) look answer refl tt is reads
-    (λ e stands. record {
-      refused = λ no. absurd (wants answer (reads.without_memory e.driver stands.driver) no);
-      told = λ other same.
-          rw (← decides.on (seen_by e.driver (shown_state look.older)) (seen_stands old.driver (shown_state look.older) e.driver stands.driver)) (tells.on e.decided stands.audits);
-    })
-    sits
-
--- ---- a poll
-
--- what is told where there was no memory is nothing
-told_nothing : (answer : Answer) (decision what : Option Decision) → decision ≡ decided_unless answer what → answer ≡ NoMemory → decision ≡ None
-told_nothing answer decision what is same = is ∙ ap (λ a. decided_unless a what) same
-
-pub poll_served : (old new : Held) (driver : HeldDriver) (left : Audits) (view : Option ℕ) (now client subscription source limit : ℕ)
-    (look : Look) (answer : Answer) (decision : Option Decision) → IsLook old.past (seat_of (Client client) old.seats) view look →
-    DriverServes (looks_at old.driver.registry (shown_state look.older)) old.driver driver (Poll (max now look.moment) client subscription source limit) answer →
-    DecidesUnless (seen_held old.driver (shown_state look.older)) (λ e. poll_decided e client subscription source) answer decision →
-    Tells old.audits left (told_one (Client client) decision) →
-    Sits (left_of old driver left) new (Client client) look.view (max now look.moment) answer →
-    Serves old new (record { view = view; step = Poll now client subscription source limit }) answer
-unfolding decided_by
-poll_served old new driver left view now client subscription source limit look answer decision is reads decides tells sits =
-    looked_served old new driver left (Client client) view (Poll now client subscription source limit) look answer refl tt is reads
+pub one_acts : (old : Held) (driver : HeldDriver) (left : Audits) (older : Option State) (step : Step) (told : Answered) (actor : Actor)
+    (what : DriverEnd → Option Decision) → DriverServes (looks_at old.driver.registry older) old.driver driver step told.answer →
+    DecidesUnless (seen_held old.driver older) what told.answer told.decision → Tells old.audits left (told_one actor told.decision) →
+    ((e : DriverEnd) (all : Decided) → decided_by e step all ≡ told_one actor (what e) all) →
+    Acts older old (left_of old driver left) step told.answer
+one_acts old driver left older step told actor what serves decides tells by =
+    tells_acts old driver left older step told.answer (told_one actor told.decision) serves tells
     (λ e stands.
-    let seen : DriverEnd = seen_by e.driver (shown_state look.older) in
-    let is_told : decision ≡ decided_unless answer (poll_decided seen client subscription source) =
-    decides.on seen (seen_stands old.driver (shown_state look.older) e.driver stands.driver) in
-    record {
-      refused = λ no.
-          let none : decision ≡ None = told_nothing answer decision (poll_decided seen client subscription source) is_told no in
-          tells.on e.decided stands.audits ∙ ap (λ d. kept_all (told_one (Client client) d e.decided)) none ∙ sym stands.audits;
-      told = λ other same.
-          tells.on e.decided stands.audits
-          ∙ ap (λ d. kept_all (told_one (Client client) d e.decided)) (is_told ∙ other.unless (poll_decided seen client subscription source));
-    })
-    sits
+    let seen : DriverEnd = seen_by e.driver older in
+    ap (λ d. told_one actor d e.decided) (decides.on seen (seen_stands old.driver older e.driver stands.driver))
+    ∙ told_unless told.answer actor (what seen) e.decided
+    ∙ ap (λ (d : Decided). decided_left told.answer e.decided d) (sym (by seen e.decided)))
+
+-- that is never refused memory
+spared : (answer : Answer) (what : Option Decision) → HasMemoryBy false answer → what ≡ decided_unless answer what
+spared answer what =
+    by_answer (λ a. HasMemoryBy false a → what ≡ decided_unless a what) (λ has. absurd (cc))
+    (λ one other has. sym (other.unless what))
+    answer
+
+pub decides_unless : (s : State) (old new : HeldDriver) (step : Step) (what : DriverEnd → Option Decision) (told : Answered) →
+    DriverServes s old new step told.answer → ((e : DriverEnd) → takes s e step ≡ false) → DecidesAs (under old s) what told.decision →
+    DecidesUnless (under old s) what told.answer told.decision
+decides_unless s old new step what told serves none decides = record {
+  on = λ e stands.
+      let before : DriverEnd = record e { registry = old.registry } in
+      decides.on e stands
+      ∙ spared told.answer (what e)
+      (subst (λ takes. HasMemoryBy takes told.answer) (none before)
+      (serves.without_memory before (record { registry = refl; logs = stands.logs })));
+}
 
 -- ---- a look at counters
-
--- what is told where there was no memory is nothing
-denied_nothing : (answer : Answer) (denials what : List Decision) → denials ≡ denials_unless answer what → answer ≡ NoMemory → denials ≡ []
-denied_nothing answer denials what is same = is ∙ ap (λ a. denials_unless a what) same
 
 told_none : (client : ℕ) (all : Decided) → told (Client client) [] all ≡ all
 told_none client all = ap (λ clients. record all { clients = clients }) (untold client all.clients)
 
-pub list_served : (old new : Held) (left : Audits) (view : Option ℕ) (now client : ℕ) (look : Look) (answer : Answer) (denials : List Decision) →
-    IsLook old.past (seat_of (Client client) old.seats) view look →
-    DriverServes (looks_at old.driver.registry (shown_state look.older)) old.driver old.driver (Lists (max now look.moment) client) answer →
-    LeavesOut (looks_at old.driver.registry (shown_state look.older)) client answer denials → Tells old.audits left (told (Client client) denials) →
-    Sits (left_of old old.driver left) new (Client client) look.view (max now look.moment) answer →
-    Serves old new (record { view = view; step = Lists now client }) answer
-unfolding decided_by
-list_served old new left view now client look answer denials is reads leaves tells sits =
-    looked_served old new old.driver left (Client client) view (Lists now client) look answer refl tt is reads
-    (λ e stands.
-    let s : State = read_by e.driver (shown_state look.older) in
-    let is_left : denials ≡ denials_unless answer (left_out s client) =
-    leaves ∙ ap (λ (r : State). denials_unless answer (left_out r client)) (ap (λ (r : State). looks_at r (shown_state look.older)) stands.driver.registry) in
-    record {
-      refused = λ no.
-          let none : denials ≡ [] = denied_nothing answer denials (left_out s client) is_left no in
-          tells.on e.decided stands.audits ∙ ap (λ d. kept_all (told (Client client) d e.decided)) none
-          ∙ ap (λ (all : Decided). kept_all all) (told_none client e.decided) ∙ sym stands.audits;
-      told = λ other same.
-          tells.on e.decided stands.audits
-          ∙ ap (λ d. kept_all (told (Client client) d e.decided)) (is_left ∙ other.denials (left_out s client));
-    })
-    sits
+denied_unless : (answer : Answer) (client : ℕ) (what : List Decision) (all : Decided) →
+    told (Client client) (denials_unless answer what) all ≡ decided_left answer all (told (Client client) what all)
+denied_unless answer client what all =
+    by_answer (λ a. told (Client client) (denials_unless a what) all ≡ decided_left a all (told (Client client) what all)) (told_none client all)
+    (λ one other. ap (λ d. told (Client client) d all) (other.denials what) ∙ sym (other.decided all (told (Client client) what all)))
+    answer
 
-pub value_served : (old new : Held) (left : Audits) (view : Option ℕ) (now client number : ℕ) (look : Look) (answer : Answer)
-    (decision : Option Decision) → IsLook old.past (seat_of (Client client) old.seats) view look →
-    DriverServes (looks_at old.driver.registry (shown_state look.older)) old.driver old.driver (Value (max now look.moment) client number) answer →
-    decision ≡ shown_decision (value (looks_at old.driver.registry (shown_state look.older)) client number) →
-    Tells old.audits left (told_one (Client client) decision) →
-    Sits (left_of old old.driver left) new (Client client) look.view (max now look.moment) answer →
-    Serves old new (record { view = view; step = Value now client number }) answer
+pub list_acts : (old : Held) (left : Audits) (older : Option State) (now client : ℕ) (answer : Answer) (denials : List Decision) →
+    DriverServes (looks_at old.driver.registry older) old.driver old.driver (Lists now client) answer →
+    LeavesOut (looks_at old.driver.registry older) client answer denials → Tells old.audits left (told (Client client) denials) →
+    Acts older old (left_of old old.driver left) (Lists now client) answer
 unfolding decided_by
-value_served old new left view now client number look answer decision is reads decides tells sits =
-    looked_served old new old.driver left (Client client) view (Value now client number) look answer refl tt is reads
-    (λ e stands. record {
-      refused = λ no. absurd (wants answer (reads.without_memory e.driver stands.driver) no);
-      told = λ other same.
-          tells.on e.decided stands.audits
-          ∙ ap (λ d. kept_all (told_one (Client client) d e.decided))
-          (decides ∙ ap (λ (s : State). shown_decision (value s client number)) (ap (λ (r : State). looks_at r (shown_state look.older)) stands.driver.registry));
-    })
-    sits
+list_acts old left older now client answer denials serves leaves tells =
+    tells_acts old old.driver left older (Lists now client) answer (told (Client client) denials) serves tells
+    (λ e stands.
+    ap (λ d. told (Client client) d e.decided)
+    (leaves ∙ ap (λ (r : State). denials_unless answer (left_out (looks_at r older) client)) stands.driver.registry)
+    ∙ denied_unless answer client (left_out (read_by e.driver older) client) e.decided)
 
 -- ---- a turn of the sender
 
@@ -343,34 +301,33 @@ unfolding on_log
 sent_seen older e now source =
     turn_answered (read_by e older) e source (send_move (read_by e older) now) _ (log_at e.logs source)
 
-pub send_served : (old new : Held) (driver : HeldDriver) (left : Audits) (view : Option ℕ) (now source : ℕ) (look : Look) (answer : Answer) →
-    IsLook old.past (seat_of Sender old.seats) view look →
-    DriverServes (looks_at old.driver.registry (shown_state look.older)) old.driver driver (Send (max now look.moment) source) answer → Tells old.audits left (told_sent answer) →
-    Sits (left_of old driver left) new Sender look.view (max now look.moment) answer →
-    Serves old new (record { view = view; step = Send now source }) answer
+sent_left : (answer : Answer) (what : DriverMoved) (all : Decided) → DriverAnswers what answer →
+    told_sent answer all ≡ decided_left answer all (told_sent what.answer all)
+sent_left answer what all =
+    by_answer (λ a. DriverAnswers what a → told_sent a all ≡ decided_left a all (told_sent what.answer all)) (λ is. refl)
+    (λ one other is. ap (λ a. told_sent a all) (other.drivers what is) ∙ sym (other.decided all (told_sent what.answer all)))
+    answer
+
+pub send_acts : (old : Held) (driver : HeldDriver) (left : Audits) (older : Option State) (now source : ℕ) (answer : Answer) →
+    DriverServes (looks_at old.driver.registry older) old.driver driver (Send now source) answer → Tells old.audits left (told_sent answer) →
+    Acts older old (left_of old driver left) (Send now source) answer
 unfolding decided_by
-send_served old new driver left view now source look answer is reads tells sits =
-    looked_served old new driver left Sender view (Send now source) look answer refl tt is reads
-    (λ e stands. record {
-      refused = λ no. tells.on e.decided stands.audits ∙ ap (λ a. kept_all (told_sent a e.decided)) no ∙ sym stands.audits;
-      told = λ other same.
-          tells.on e.decided stands.audits
-          ∙ ap (λ a. kept_all (told_sent a e.decided)) (same ∙ sym (sent_seen (shown_state look.older) e.driver (max now look.moment) source));
-    })
-    sits
+send_acts old driver left older now source answer serves tells =
+    tells_acts old driver left older (Send now source) answer (told_sent answer) serves tells
+    (λ e stands.
+    let there = served_by old.driver driver older (Send now source) answer e.driver stands.driver serves in
+    sent_left answer (moved_by (read_by e.driver older) e.driver (Send now source)) e.decided (there.on e.driver stands.driver).0
+    ∙ ap (λ a. decided_left answer e.decided (told_sent a e.decided)) (sym (sent_seen older e.driver now source)))
 
 -- ---- a turn of the receiver
 
-pub report_served : (old new : Held) (driver : HeldDriver) (view : Option ℕ) (now source : ℕ) (look : Look) (answer : Answer) →
-    IsLook old.past (seat_of Receiver old.seats) view look →
-    DriverServes (looks_at old.driver.registry (shown_state look.older)) old.driver driver (Image (max now look.moment) source) answer →
-    Sits (left_of old driver old.audits) new Receiver look.view (max now look.moment) answer →
-    Serves old new (record { view = view; step = Image now source }) answer
+pub report_acts : (old : Held) (driver : HeldDriver) (older : Option State) (now source : ℕ) (answer : Answer) →
+    DriverServes (looks_at old.driver.registry older) old.driver driver (Image now source) answer →
+    Acts older old (left_of old driver old.audits) (Image now source) answer
 unfolding decided_by
-report_served old new driver view now source look answer is reads sits =
-    looked_served old new driver old.audits Receiver view (Image now source) look answer refl tt is reads
-    (λ e stands. record { refused = λ no. refl; told = λ other same. stands.audits })
-    sits
+report_acts old driver older now source answer serves =
+    tells_acts old driver old.audits older (Image now source) answer (λ all. all) serves (record { on = λ all is. is })
+    (λ e stands. by_answer (λ a. e.decided ≡ decided_left a e.decided e.decided) refl (λ one other. sym (other.decided e.decided e.decided)) answer)
 
 -- ---- an event
 
@@ -517,28 +474,11 @@ came_as shown old new now local from bytes (Ok (nak given)) told comes = record 
 came_as shown old new now local from bytes (Ok (status given)) told comes = record { serves = comes.0; decides = comes.1; by = λ e all. refl }
 came_as shown old new now local from bytes (Ok (setup given)) told comes = absurd (cc comes.0)
 
-pub packet_served : (old new : Held) (driver : HeldDriver) (left : Audits) (view : Option ℕ) (now : ℕ) (local from : Address) (bytes : List ℕ)
-    (look : Look) (told : Answered) → Looks (reader_of (packet_of bytes)) →
-    IsLook old.past (seat_of (reader_of (packet_of bytes)) old.seats) view look →
-    Comes (looks_at old.driver.registry (shown_state look.older)) old.driver driver (max now look.moment) local from bytes (came.Answered told) →
+pub packet_acts : (old : Held) (driver : HeldDriver) (left : Audits) (older : Option State) (now : ℕ) (local from : Address) (bytes : List ℕ)
+    (told : Answered) → Comes (looks_at old.driver.registry older) old.driver driver now local from bytes (came.Answered told) →
     Tells old.audits left (told_one Sender told.decision) →
-    Sits (left_of old driver left) new (reader_of (packet_of bytes)) look.view (max now look.moment) told.answer →
-    Serves old new (record { view = view; step = Packet now local from bytes }) told.answer
+    Acts older old (left_of old driver left) (Packet now local from bytes) told.answer
 unfolding decided_by
-packet_served old new driver left view now local from bytes look told looks is comes tells sits =
-    let came' = came_as (looks_at old.driver.registry (shown_state look.older)) old.driver driver (max now look.moment) local from bytes (packet_of bytes) told comes in
-    looked_served old new driver left (reader_of (packet_of bytes)) view (Packet now local from bytes) look told.answer refl looks is came'.serves
-    (λ e stands.
-    let seen : DriverEnd = seen_by e.driver (shown_state look.older) in
-    let is_told : told.decision ≡ decided_unless told.answer (content_decided seen from (packet_of bytes)) =
-    came'.decides.on seen (seen_stands old.driver (shown_state look.older) e.driver stands.driver) in
-    record {
-      refused = λ no.
-          let none : told.decision ≡ None = told_nothing told.answer told.decision (content_decided seen from (packet_of bytes)) is_told no in
-          tells.on e.decided stands.audits ∙ ap (λ d. kept_all (told_one Sender d e.decided)) none ∙ sym stands.audits;
-      told = λ other same.
-          tells.on e.decided stands.audits
-          ∙ ap (λ d. kept_all (told_one Sender d e.decided)) (is_told ∙ other.unless (content_decided seen from (packet_of bytes)))
-          ∙ ap (λ (all : Decided). kept_all all) (sym (came'.by seen e.decided));
-    })
-    sits
+packet_acts old driver left older now local from bytes told comes tells =
+    let came' = came_as (looks_at old.driver.registry older) old.driver driver now local from bytes (packet_of bytes) told comes in
+    one_acts old driver left older (Packet now local from bytes) told Sender (λ e. content_decided e from (packet_of bytes)) came'.serves came'.decides tells came'.by

@@ -5,13 +5,16 @@ use Rattle.driver_core.specs.declared.state.peer.Peer.{Peer}
 use Rattle.driver_core.specs.declared.state.settings.Settings.{Settings}
 use Rattle.log_steps.specs.declared.answer.Answer.{Answer}
 use Rattle.log_steps.specs.declared.answer.Answer.TheVariants.{BadStep, NoMemory}
-use Rattle.driver_steps.specs.Standing.{Held as HeldDriver, StandsForEnd as DriverStands}
+use Rattle.driver_core.specs.State.{State}
+use Rattle.driver_steps.specs.declared.step.Step.{Step}
+use Rattle.driver_steps.specs.Ends.{looks_at}
+use Rattle.driver_steps.specs.Standing.{Held as HeldDriver, Serves as DriverServes, StandsForEnd as DriverStands}
 use Rattle.driver_world.specs.declared.actor.Actor.{Actor}
 use Rattle.driver_world.specs.declared.reading.Reading.{Reading}
 use Rattle.driver_world.specs.declared.seats.Seat.{Seat}
 use Rattle.driver_world.specs.declared.world.Look.{Look}
-use Rattle.driver_world.specs.Audits.{Audits, kept_all}
-use Rattle.driver_world.specs.Ends.{RunEnd, opening_end, IsAnswer, AreAnswers, after, end_of}
+use Rattle.driver_world.specs.Audits.{Audits, Decided, decided_by, kept_all}
+use Rattle.driver_world.specs.Ends.{RunEnd, opening_end, IsAnswer, AreAnswers, after, end_of, seen_by}
 use Rattle.driver_world.specs.Memory.{HasMemory, HaveMemory}
 use Rattle.driver_world.specs.Past.{IsShown, shown_state}
 use Rattle.driver_world.specs.Views.{Past, Seats, is_out, newest_of, older_at, seated, view_or}
@@ -70,6 +73,22 @@ IsNoLook past seat view answer =
     ((answer ≡ BadStep) × (is_out (newest_of past) seat (view_or (newest_of past) view) ≡ true))
     ⊎ ((answer ≡ NoMemory) × (is_out (newest_of past) seat (view_or (newest_of past) view) ≡ false)
     × ((view_or (newest_of past) view == newest_of past) ≡ false))
+
+-- ---- a step by that registry
+
+-- a step that was refused memory reports nothing
+abbrev pub decided_left : Answer → Decided → Decided → Decided
+decided_left NoMemory before after = before
+decided_left answer before after = after
+
+-- The driver serves by it, and what it decides is reported, for each end that the world stands for. Registries and seats are as
+-- they were.
+pub record Acts (older : Option State) (old new : Held) (step : Step) (answer : Answer) : Type 0 where
+  pub serves : DriverServes (looks_at old.driver.registry older) old.driver new.driver step answer
+  pub reports :
+      (e : RunEnd) → StandsForEnd old e →
+      new.audits ≡ kept_all (decided_left answer e.decided (decided_by (seen_by e.driver older) step e.decided))
+  pub stays : new ≡ record old { driver = new.driver; audits = new.audits }
 
 -- a step that was refused memory leaves the actor where it stood
 abbrev pub seats_left : Actor → Seat → Answer → Seats → Seats

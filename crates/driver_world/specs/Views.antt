@@ -50,6 +50,12 @@ actor_of (steps.Image now source) = Receiver
 actor_of (steps.List now client) = Client client
 actor_of (steps.Value now client number) = Client client
 
+-- an act: neither an event nor a datagram
+abbrev pub IsAct : Step → Type 0
+IsAct (steps.Conductor event) = ⊥
+IsAct (steps.Packet now local from bytes) = ⊥
+IsAct step = Unit {0}
+
 -- one who looks at registries: the conductor makes them, and goes by the newest
 abbrev pub Looks : Actor → Type 0
 Looks Conductor = ⊥

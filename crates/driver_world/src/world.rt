@@ -1,11 +1,11 @@
 ghost use Rattle.driver_core.specs.Soundness.{AreSettings};
 ghost use Rattle.audit_ring.specs.Audit.{kept_of};
 ghost use Rattle.driver_world.specs.Past.{IsShown, shown_state};
-ghost use Rattle.driver_world.specs.Views.{reader_of};
+ghost use Rattle.driver_world.specs.Views.{IsAct, Looks, actor_of, at_moment, moment_of, reader_of};
 ghost use Rattle.frame_codec.specs.Datagram.{Content, content, packet_of};
 ghost use Rattle.frame_codec.specs.Steps.{Equals};
 ghost use Rattle.frame_codec.specs.declared.fault.BadPacket.{BadPacket as Faults};
-ghost use Rattle.std.specs.Prelude.{◌≡◌, [], Some, None, Ok, Result, max, length, ◌<◌, option_copied, IfOk, IfErr, OnOk, OnErr};
+ghost use Rattle.std.specs.Prelude.{◌≡◌, ℕ, [], Some, None, Ok, Result, max, length, ◌<◌, option_copied, IfOk, IfErr, OnOk, OnErr};
 
 use crate::actor::Actor;
 use crate::audits::Audits;
@@ -101,14 +101,32 @@ fn reader_of(read: &Result<Packet<'_>, BadPacket>) -> Actor
     }
 }
 
+/// Whose act it is, and its moment.
+fn whose(step: &Step) -> (Actor, u64)
+    requires { IsAct step.now }
+    ensures is { result ≡ (actor_of step.now, moment_of step.now) }
+    ensures looks { Looks (actor_of step.now) }
+    ensures at { (moment : ℕ) → moment_of (at_moment moment step.now) ≡ max (moment_of step.now) moment }
+{
+    match step {
+        Step::Offer { now, client, .. }
+        | Step::Poll { now, client, .. }
+        | Step::List { now, client }
+        | Step::Value { now, client, .. } => (Actor::Client(*client), *now),
+        Step::Send { now, .. } => (Actor::Sender, *now),
+        Step::Image { now, .. } => (Actor::Receiver, *now),
+        Step::Conductor(_) | Step::Packet { .. } => unreachable!(),
+    }
+}
+
 impl World {
     ghost use Rattle.driver_core.specs.declared.state.event.Event.TheVariants.{Setup as SetUp};
     ghost use Rattle.driver_steps.specs.Standing.{pages_of_logs};
-    ghost use Rattle.driver_steps.specs.declared.step.Step.TheVariants.{Conductor, Packet as Packets, Offer, Poll, Send, Image, List as Lists, Value};
+    ghost use Rattle.driver_steps.specs.declared.step.Step.TheVariants.{Conductor, Packet as Packets};
     ghost use Rattle.driver_world.specs.Audits.{IsAuditOf, kept_for};
     ghost use Rattle.driver_world.specs.Ends.{opening_end};
-    ghost use Rattle.driver_world.specs.Standing.{StandsForEnd, Serves, Runs, Continues, IsLook, IsNoLook, Sits};
-    ghost use Rattle.driver_world.specs.Views.{Looks, newest_of, seat_of};
+    ghost use Rattle.driver_world.specs.Standing.{StandsForEnd, Serves, Runs, Continues, Acts, IsLook, IsNoLook, Sits};
+    ghost use Rattle.driver_world.specs.Views.{newest_of, seat_of};
     ghost use Rattle.log_arena.specs.Pages.{holes_of};
 
     /// A world in which nothing happened yet.
@@ -370,131 +388,81 @@ impl World {
         }
     }
 
-    /// A client offers a message.
-    fn offer(
-        &mut self,
-        alloc: Global,
-        view: Option<u64>,
-        now: u64,
-        client: u64,
-        registration: u64,
-        message: &[u8],
-    ) -> Answer
-        ensures { Serves self.old self.new (record { view = view; step = Offer now client registration message.now }) result }
+    /// The driver takes an act by the registry that its actor looks at, and what is decided is reported to the actor.
+    fn perform(&mut self, alloc: Global, look: &Look, step: &Step) -> Answer
+        requires { IsAct step.now }
+        ensures { Acts (shown_state look.now.older) self.old self.new (at_moment look.now.moment step.now) result }
     {
-        let actor = Actor::Client(client);
+        let older = look.older();
+        match step {
+            Step::Offer {
+                now,
+                client,
+                registration,
+                message,
+            } => {
+                let now = look.at(*now);
+                let message = message.as_slice();
+                let told = self
+                    .driver
+                    .offer(older, now, *client, *registration, message);
+                self.audits.tell_client(*client, told.decision);
+                told.answer
+            }
+            Step::Poll {
+                now,
+                client,
+                subscription,
+                source,
+                limit,
+            } => {
+                let now = look.at(*now);
+                let told = self
+                    .driver
+                    .poll(older, alloc, now, *client, *subscription, *source, *limit);
+                self.audits.tell_client(*client, told.decision);
+                told.answer
+            }
+            Step::Send { now, source } => {
+                let answer = self.driver.send(older, alloc, look.at(*now), *source);
+                self.audits.tell_sent(&answer);
+                answer
+            }
+            Step::Image { now, source } => {
+                self.driver.report(older, alloc, look.at(*now), *source)
+            }
+            Step::List { now, client } => {
+                let looked = self.driver.list(older, alloc, look.at(*now), *client);
+                self.audits.tell_denials(*client, looked.denials.as_slice());
+                looked.answer
+            }
+            Step::Value {
+                now,
+                client,
+                number,
+            } => {
+                let told = self.driver.value(older, look.at(*now), *client, *number);
+                self.audits.tell_client(*client, told.decision);
+                told.answer
+            }
+            Step::Conductor(_) | Step::Packet { .. } => unreachable!(),
+        }
+    }
+
+    /// A step that is neither an event nor a datagram.
+    fn act(&mut self, alloc: Global, view: Option<u64>, step: &Step) -> Answer
+        requires { IsAct step.now }
+        ensures { Serves self.old self.new (record { view = view; step = step.now }) result }
+    {
+        let (actor, now) = whose(step);
         let look = match self.look(alloc, actor, view) {
             Ok(look) => look,
             Err(answer) => return answer,
         };
+        let answer = self.perform(alloc, &look, step);
         let now = look.at(now);
-        let told = self
-            .driver
-            .offer(look.older(), now, client, registration, message);
-        self.audits.tell_client(client, told.decision);
-        self.sit(actor, look, now, &told.answer);
-        told.answer
-    }
-
-    /// A client polls a log.
-    fn poll(
-        &mut self,
-        alloc: Global,
-        view: Option<u64>,
-        now: u64,
-        client: u64,
-        subscription: u64,
-        source: u64,
-        limit: u32,
-    ) -> Answer
-        ensures { Serves self.old self.new (record { view = view; step = Poll now client subscription source limit }) result }
-    {
-        let actor = Actor::Client(client);
-        let look = match self.look(alloc, actor, view) {
-            Ok(look) => look,
-            Err(answer) => return answer,
-        };
-        let now = look.at(now);
-        let told = self.driver.poll(
-            look.older(),
-            alloc,
-            now,
-            client,
-            subscription,
-            source,
-            limit,
-        );
-        self.audits.tell_client(client, told.decision);
-        self.sit(actor, look, now, &told.answer);
-        told.answer
-    }
-
-    /// The sender has a turn with a publication.
-    fn send(&mut self, alloc: Global, view: Option<u64>, now: u64, source: u64) -> Answer
-        ensures { Serves self.old self.new (record { view = view; step = Send now source }) result }
-    {
-        let look = match self.look(alloc, Actor::Sender, view) {
-            Ok(look) => look,
-            Err(answer) => return answer,
-        };
-        let now = look.at(now);
-        let answer = self.driver.send(look.older(), alloc, now, source);
-        self.audits.tell_sent(&answer);
-        self.sit(Actor::Sender, look, now, &answer);
+        self.sit(actor, look, now, &answer);
         answer
-    }
-
-    /// The receiver has a turn with an image.
-    fn report(&mut self, alloc: Global, view: Option<u64>, now: u64, source: u64) -> Answer
-        ensures { Serves self.old self.new (record { view = view; step = Image now source }) result }
-    {
-        let look = match self.look(alloc, Actor::Receiver, view) {
-            Ok(look) => look,
-            Err(answer) => return answer,
-        };
-        let now = look.at(now);
-        let answer = self.driver.report(look.older(), alloc, now, source);
-        self.sit(Actor::Receiver, look, now, &answer);
-        answer
-    }
-
-    /// A client looks at the counters that it may see.
-    fn list(&mut self, alloc: Global, view: Option<u64>, now: u64, client: u64) -> Answer
-        ensures { Serves self.old self.new (record { view = view; step = Lists now client }) result }
-    {
-        let actor = Actor::Client(client);
-        let look = match self.look(alloc, actor, view) {
-            Ok(look) => look,
-            Err(answer) => return answer,
-        };
-        let now = look.at(now);
-        let looked = self.driver.list(look.older(), alloc, now, client);
-        self.audits.tell_denials(client, looked.denials.as_slice());
-        self.sit(actor, look, now, &looked.answer);
-        looked.answer
-    }
-
-    /// A client looks at one counter.
-    fn value(
-        &mut self,
-        alloc: Global,
-        view: Option<u64>,
-        now: u64,
-        client: u64,
-        number: u64,
-    ) -> Answer
-        ensures { Serves self.old self.new (record { view = view; step = Value now client number }) result }
-    {
-        let actor = Actor::Client(client);
-        let look = match self.look(alloc, actor, view) {
-            Ok(look) => look,
-            Err(answer) => return answer,
-        };
-        let now = look.at(now);
-        let told = self.driver.value(look.older(), now, client, number);
-        self.audits.tell_client(client, told.decision);
-        self.sit(actor, look, now, &told.answer);
-        told.answer
     }
 
     /// Takes one step, by the registry that it names. One that its actor may not look at is answered [`Answer::BadStep`], and
@@ -512,34 +480,7 @@ impl World {
                 from,
                 bytes,
             } => self.packet(alloc, view, *now, local, from, bytes.as_slice()),
-            Step::Offer {
-                now,
-                client,
-                registration,
-                message,
-            } => self.offer(
-                alloc,
-                view,
-                *now,
-                *client,
-                *registration,
-                message.as_slice(),
-            ),
-            Step::Poll {
-                now,
-                client,
-                subscription,
-                source,
-                limit,
-            } => self.poll(alloc, view, *now, *client, *subscription, *source, *limit),
-            Step::Send { now, source } => self.send(alloc, view, *now, *source),
-            Step::Image { now, source } => self.report(alloc, view, *now, *source),
-            Step::List { now, client } => self.list(alloc, view, *now, *client),
-            Step::Value {
-                now,
-                client,
-                number,
-            } => self.value(alloc, view, *now, *client, *number),
+            step => self.act(alloc, view, step),
         }
     }
 

@@ -3,7 +3,7 @@ use Rattle.std.proofs.Common.{◌≡◌, ℕ, ◌+◌, ◌==◌, Bool, true, fal
 use Rattle.std.specs.Prelude.{if◌then◌else◌}
 use Rattle.channel_uri.specs.declared.address.Address.{Address}
 use Rattle.driver_core.specs.declared.asked.log_request.LogRequest.{LogRequest}
-use Rattle.driver_core.specs.LogRequests.{offering_of, receiving_of}
+use Rattle.driver_core.specs.LogRequests.{receiving_of}
 use Rattle.driver_core.specs.PublicationRequests.{publisher_of}
 use Rattle.driver_core.specs.SendRequests.{sending_of}
 use Rattle.driver_core.specs.State.{State}
@@ -12,7 +12,7 @@ use Rattle.log_steps.specs.declared.answer.Answer.TheVariants.{Denied, Offered a
 use Rattle.log_steps.specs.declared.answer.Offered.TheVariants.{Closed, TooLong as IsTooLong, NotConnected}
 use Rattle.log_steps.specs.Answers.{offered_as}
 use Rattle.log_steps.specs.Held.{HeldLog}
-use Rattle.log_steps.specs.Moves.{Does, Move, WholeLog, answered, for_source, given, offer_let, offer_move, offer_to, offer_under, offers, poll_move, poll_under, taken}
+use Rattle.log_steps.specs.Moves.{Does, Move, WholeLog, answered, for_source, given, offer_let, offer_to, offer_under, offers, poll_move, poll_under, taken}
 use Rattle.log_steps.specs.Packets.{content_move, packet_move}
 use Rattle.log_steps.specs.declared.packets.PacketRequest.{PacketRequest}
 use Rattle.log_steps.specs.Receiving.{receive_move, unheard}
@@ -131,17 +131,12 @@ to_takes : (now timeout : ℕ) (verdict : Verdict) (message : List ℕ) (log : W
 to_takes now timeout verdict message log (whole w) is = let_takes now timeout verdict message log w is
 to_takes now timeout verdict message log (rebuilt r) is = omega arith
 
-under_takes : (s : State) (now : ℕ) (message : List ℕ) (log : WholeLog) (request : Option LogRequest) →
-    Takes (messages_in log.whole) (offer_under s now message log request)
-under_takes s now message log None = omega arith
-under_takes s now message log (Some request) =
-    if_takes (not (request.source == log.source)) (answered log (OfferedAs Closed)) (offers now s.settings.connection_timeout request.decision.verdict message log)
-    (messages_in log.whole) (omega arith) (to_takes now s.settings.connection_timeout request.decision.verdict message log log.whole refl)
-
-pub offer_takes : (s : State) (now client registration : ℕ) (message : List ℕ) (log : WholeLog) →
-    let m : Move = offer_move s now client registration message log in messages_in m.after.whole ≡ messages_in log.whole + taken_by m.answer
-unfolding offer_move
-offer_takes s now client registration message log = under_takes s now message log (offering_of s client registration)
+under_takes : (timeout : ℕ) (request : Option LogRequest) (now : ℕ) (message : List ℕ) (log : WholeLog) →
+    Takes (messages_in log.whole) (offer_under timeout request now message log)
+under_takes timeout None now message log = omega arith
+under_takes timeout (Some request) now message log =
+    if_takes (not (request.source == log.source)) (answered log (OfferedAs Closed)) (offers now timeout request.decision.verdict message log)
+    (messages_in log.whole) (omega arith) (to_takes now timeout request.decision.verdict message log log.whole refl)
 
 -- ---- the log that is held
 
@@ -156,16 +151,16 @@ held_keeps move held after answer does has keeps =
     let done = does.on log (record { source_is = refl; whole = has.stands; recovery_is = refl }) in
     (messages_count after.log).on (move log).after.whole done.1.whole ∙ keeps log ∙ sym ((messages_count held.log).on has.whole has.stands)
 
-pub held_takes : (s : State) (now client registration : ℕ) (message : List ℕ) (held after : HeldLog) (answer : Answer) →
-    Does (offer_move s now client registration message) held after answer → HasWhole held.log →
+pub held_takes : (timeout : ℕ) (request : Option LogRequest) (now : ℕ) (message : List ℕ) (held after : HeldLog) (answer : Answer) →
+    Does (offer_under timeout request now message) held after answer → HasWhole held.log →
     messages_held after.log ≡ messages_held held.log + taken_by answer
-held_takes s now client registration message held after answer does has =
+held_takes timeout request now message held after answer does has =
     let log : WholeLog = of_whole held has.whole in
-    let move = offer_move s now client registration message in
+    let move = offer_under timeout request now message in
     let done = does.on log (record { source_is = refl; whole = has.stands; recovery_is = refl }) in
     let new = (messages_count after.log).on (move log).after.whole done.1.whole in
     let old = (messages_count held.log).on has.whole has.stands in
-    let takes = offer_takes s now client registration message log in
+    let takes = under_takes timeout request now message log in
     let same : taken_by answer ≡ taken_by (move log).answer = ap taken_by done.0 in
     omega (arith, new, old, takes, same)
 

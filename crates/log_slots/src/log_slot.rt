@@ -1,7 +1,7 @@
 ghost use Rattle.log_steps.specs.declared.answer.Answer.TheVariants.{Gone, Offered as OfferedAs};
 ghost use Rattle.log_steps.specs.declared.answer.Offered.TheVariants.{Closed};
-ghost use Rattle.log_steps.specs.Decided.{decision_for, offer_decision, poll_decision};
-ghost use Rattle.log_steps.specs.Moves.{for_source, offer_move, poll_move};
+ghost use Rattle.log_steps.specs.Decided.{decision_for, offer_decision_by, poll_decision};
+ghost use Rattle.log_steps.specs.Moves.{for_source, offer_under, poll_move};
 ghost use Rattle.log_steps.specs.Packets.{IsSoundContent, packet_move};
 ghost use Rattle.log_steps.specs.Receiving.{unheard};
 ghost use Rattle.log_steps.specs.Reporting.{image_move};
@@ -18,7 +18,7 @@ ghost use Rattle.std.specs.Prelude.{◌≡◌, ◌≢◌, ◌+◌, ◌≤◌, le
 
 use crate::naming::Naming;
 use crate::positions::{ReadingPositions, consumed_by};
-use driver_core::{Address, Astray, View};
+use driver_core::{Address, Astray, LogRequest, View};
 use frame_codec::Packet;
 use log_steps::{
     Answer, Answered, Asks, Cause, Offered, OpenLog, PacketRequest, Progress, image_step,
@@ -260,27 +260,23 @@ impl<N: Naming> LogSlot<N> {
     }
 
     /// A client offers a message, as [`offer_step`] says.
-    pub fn offer<V: View, A: Asks>(
+    pub fn offer(
         &mut self,
-        view: &V,
-        asker: &mut A,
+        timeout: u64,
+        request: &Option<LogRequest>,
         now: u64,
-        client: u64,
-        registration: u64,
         message: &[u8],
     ) -> Answered
-        requires { A.is_right asker.old (V.shows view.now) }
-        ensures moved { Moves (offer_move (V.shows view.now) now client registration message.now) (OfferedAs Closed) self.old.log self.new.log result.answer }
-        ensures decides { DecidesIn (offer_decision (V.shows view.now) client registration) self.old.log result.decision }
+        ensures moved { Moves (offer_under timeout request.now now message.now) (OfferedAs Closed) self.old.log self.new.log result.answer }
+        ensures decides { DecidesIn (offer_decision_by request.now) self.old.log result.decision }
         ensures same { self.new ≡ record self.old { log = self.new.log } }
         ensures messages { messages_in self.new.log ≡ messages_in self.old.log + taken_by result.answer }
-        ensures right { A.is_right asker.new (V.shows view.now) }
     {
         let Some(log) = &mut self.log else {
             return closed();
         };
         log.has_whole();
-        offer_step(view, log, asker, now, client, registration, message)
+        offer_step(log, timeout, request, now, message)
     }
 
     /// A client polls the log of a source, as [`poll_step`] says.

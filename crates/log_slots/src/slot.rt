@@ -1,7 +1,7 @@
 ghost use Rattle.log_steps.specs.declared.answer.Answer.TheVariants.{Gone, Offered as OfferedAs};
 ghost use Rattle.log_steps.specs.declared.answer.Offered.TheVariants.{Closed};
-ghost use Rattle.log_steps.specs.Decided.{decision_for, offer_decision, poll_decision};
-ghost use Rattle.log_steps.specs.Moves.{for_source, offer_move, poll_move};
+ghost use Rattle.log_steps.specs.Decided.{decision_for, offer_decision_by, poll_decision};
+ghost use Rattle.log_steps.specs.Moves.{for_source, offer_under, poll_move};
 ghost use Rattle.log_steps.specs.Packets.{IsSoundContent, packet_move};
 ghost use Rattle.log_steps.specs.Sending.{send_move};
 ghost use Rattle.frame_codec.specs.Datagram.{content};
@@ -18,7 +18,7 @@ use crate::amount::{Amount, AtEnd};
 use crate::log_slot::{LogSlot, closed};
 use crate::naming::Naming;
 use crate::positions::{PublicationPositions, ReadingPositions, counted_as, is_limit, note_if};
-use driver_core::{Address, View};
+use driver_core::{Address, LogRequest, View};
 use frame_codec::Packet;
 use log_steps::{Answer, Answered, Asks, Offered, OpenLog, PacketRequest};
 use receiver_reports::Reports;
@@ -98,27 +98,23 @@ impl<N: Naming> Slot<N> {
     /// A client offers a message, as [`LogSlot::offer`] says. One that the log took goes from what the slot has left to what the
     /// client counts. Where the slot has none left, or the client's number is at its greatest value, it is not counted, and
     /// `ended` has that from then on.
-    pub fn offer<V: View, A: Asks>(
+    pub fn offer(
         &mut self,
         mine: &mut Amount<N>,
         ended: &mut Option<AtEnd<N>>,
-        view: &V,
-        asker: &mut A,
+        timeout: u64,
+        request: &Option<LogRequest>,
         now: u64,
-        client: u64,
-        registration: u64,
         message: &[u8],
     ) -> Answered
         requires part { 0 < mine.old.parts }
-        requires right { A.is_right asker.old (V.shows view.now) }
-        ensures moved { Moves (offer_move (V.shows view.now) now client registration message.now) (OfferedAs Closed) self.old.kept.log self.new.kept.log result.answer }
-        ensures decides { DecidesIn (offer_decision (V.shows view.now) client registration) self.old.kept.log result.decision }
+        ensures moved { Moves (offer_under timeout request.now now message.now) (OfferedAs Closed) self.old.kept.log self.new.kept.log result.answer }
+        ensures decides { DecidesIn (offer_decision_by request.now) self.old.kept.log result.decision }
         ensures parts { mine.new.parts ≡ mine.old.parts }
         ensures counted { Passes (taken_by result.answer) mine.old.number mine.new.number self.old.left self.new.left }
         ensures ended { (mine.new.number ≡ mine.old.number + taken_by result.answer) ⊎ IsSome ended.new }
         ensures exact { (self.new.exact ≡ self.old.exact) ⊎ IsFull mine.old.number self.old.left }
         ensures same { self.new ≡ record self.old { kept = record self.old.kept { log = self.new.kept.log }; left = self.new.left; exact = self.new.exact } }
-        ensures right { A.is_right asker.new (V.shows view.now) }
     {
         if self.settled {
             return closed();
@@ -129,7 +125,7 @@ impl<N: Naming> Slot<N> {
             left,
             ..
         } = self;
-        let told = kept.offer(view, asker, now, client, registration, message);
+        let told = kept.offer(timeout, request, now, message);
         if is_taken(&told.answer) {
             if let Some(end) = left.pass_one(mine) {
                 *exact = false;

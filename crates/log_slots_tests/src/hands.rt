@@ -2,7 +2,6 @@
 ghost use Rattle.log_slots.specs.Counting.{taken_by};
 ghost use Rattle.std.specs.Prelude.{◌≡◌, ◌<◌, ◌^◌, true, IfSome, MatchBool};
 
-use crate::asking::Anew;
 use crate::registries::CLIENT;
 use driver_core::Registry;
 use log_slots::{Amount, Naming, OfMessages, Slot};
@@ -60,16 +59,11 @@ impl<N: Naming> Hand<N> {
             exact,
         } = self;
         let mut end = None;
-        let told = slot.lock(rt).offer(
-            counted,
-            &mut end,
-            registry,
-            &mut Anew,
-            0,
-            CLIENT,
-            registration,
-            b"abc",
-        );
+        let timeout = registry.settings().connection_timeout;
+        let request = registry.offering(CLIENT, registration);
+        let told = slot
+            .lock(rt)
+            .offer(counted, &mut end, timeout, &request, 0, b"abc");
         match taken.checked_add(taken_by(&told)) {
             Some(sum) if end.is_none() => *taken = sum,
             _ => *exact = false,

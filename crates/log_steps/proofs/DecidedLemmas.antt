@@ -4,37 +4,30 @@ use Rattle.log_traffic.specs.Held.{position_held}
 use Rattle.log_traffic.proofs.AnyLemmas.{position_stands}
 use Rattle.log_traffic.specs.Whole.{position_in}
 use Rattle.driver_core.specs.declared.asked.log_request.LogRequest.{LogRequest}
-use Rattle.driver_core.specs.LogRequests.{offering_of, receiving_of}
+use Rattle.driver_core.specs.LogRequests.{receiving_of}
 use Rattle.driver_core.specs.State.{State}
-use Rattle.log_steps.specs.Decided.{Decides, decision_on, offer_decision, poll_decision, poll_decision_by}
+use Rattle.log_steps.specs.Decided.{Decides, decision_on, offer_decision_by, poll_decision, poll_decision_by}
 use Rattle.log_steps.specs.Held.{HeldLog}
 use Rattle.policy_core.specs.declared.decision.Decision.{Decision}
 
 -- ---- an offer
 
-offer_decides : (s : State) (client registration : ℕ) (held : HeldLog) (decision : Option Decision) →
-    decision ≡ decision_on held.source (offering_of s client registration) →
-    Decides (offer_decision s client registration) held decision
-unfolding offer_decision
-offer_decides s client registration held decision is = record { on = λ log stands. rw (← stands.source_is) is }
+offer_decides : (request : Option LogRequest) (held : HeldLog) (decision : Option Decision) → decision ≡ decision_on held.source request →
+    Decides (offer_decision_by request) held decision
+offer_decides request held decision is = record { on = λ log stands. rw (← stands.source_is) is }
 
 -- the client has no such registration
-pub unregistered_decides : (s : State) (client registration : ℕ) (held : HeldLog) →
-    offering_of s client registration ≡ None → Decides (offer_decision s client registration) held None
-unregistered_decides s client registration held none = offer_decides s client registration held None (rw none refl)
+pub unregistered_decides : (held : HeldLog) → Decides (offer_decision_by None) held None
+unregistered_decides held = offer_decides None held None refl
 
 -- it is with another log
-pub elsewhere_decides : (s : State) (client registration : ℕ) (held : HeldLog) (request : LogRequest) →
-    offering_of s client registration ≡ Some request → (request.source == held.source) ≡ false →
-    Decides (offer_decision s client registration) held None
-elsewhere_decides s client registration held request asked other =
-    offer_decides s client registration held None (rw (asked, other) refl)
+pub elsewhere_decides : (held : HeldLog) (request : LogRequest) → (request.source == held.source) ≡ false →
+    Decides (offer_decision_by (Some request)) held None
+elsewhere_decides held request other = offer_decides (Some request) held None (rw other refl)
 
-pub own_decides : (s : State) (client registration : ℕ) (held : HeldLog) (request : LogRequest) →
-    offering_of s client registration ≡ Some request → (request.source == held.source) ≡ true →
-    Decides (offer_decision s client registration) held (Some request.decision)
-own_decides s client registration held request asked own =
-    offer_decides s client registration held (Some request.decision) (rw (asked, own) refl)
+pub own_decides : (held : HeldLog) (request : LogRequest) → (request.source == held.source) ≡ true →
+    Decides (offer_decision_by (Some request)) held (Some request.decision)
+own_decides held request own = offer_decides (Some request) held (Some request.decision) (rw own refl)
 
 -- ---- a poll
 

@@ -11,7 +11,7 @@ use Rattle.log_traffic.specs.Held.{Lies, position_held}
 use Rattle.log_traffic.specs.Whole.{AnyWhole, whole, rebuilt, StandsFor, Carries, Fetches, Words, beaten, polled, position_in, received}
 use Rattle.log_traffic.proofs.AnyLemmas.{position_stands}
 use Rattle.driver_core.specs.declared.asked.log_request.LogRequest.{LogRequest}
-use Rattle.driver_core.specs.LogRequests.{offering_of, receiving_of}
+use Rattle.driver_core.specs.LogRequests.{receiving_of}
 use Rattle.driver_core.specs.State.{State}
 use Rattle.log_steps.specs.declared.answer.Answer.{Answer}
 use Rattle.log_steps.specs.declared.answer.Answer.TheVariants.{Dropped, Offered as OfferedAs, Heard, Polled, Denied, Received}
@@ -33,7 +33,7 @@ use Rattle.log_traffic.specs.Receiver.{Receiving}
 use Rattle.policy_core.specs.declared.decision.Decision.{Decision}
 use Rattle.log_traffic.specs.declared.hearing.StatusAnswer.{StatusAnswer}
 use Rattle.retransmit_gate.specs.Gate.{Resends}
-use Rattle.log_steps.specs.Moves.{WholeLog, Move, StandsForLog, Does, answered, taken, given, offer_to, offers, offer_move, poll_move, term_held}
+use Rattle.log_steps.specs.Moves.{WholeLog, Move, StandsForLog, Does, answered, taken, given, offer_to, offer_under, offers, poll_move, term_held}
 use Rattle.log_steps.specs.Receiving.{beat_move, receive_move}
 use Rattle.log_steps.specs.Recovery.{Recovering}
 use Rattle.frame_codec.specs.declared.header.TermPlace.{TermPlace}
@@ -138,19 +138,16 @@ offer_taken now timeout verdict message l after answer allowed short read offers
 -- ---- an offer
 
 -- what the log makes of it where the client has a registration with it
-pub offer_passed : (s : State) (now client registration : ℕ) (message : List ℕ) (held after : HeldLog) (request : LogRequest) (answer : Answer) →
-    offering_of s client registration ≡ Some request → request.source ≡ held.source →
-    Does (offers now s.settings.connection_timeout request.decision.verdict message) held after answer →
-    Does (offer_move s now client registration message) held after answer
-unfolding offer_move
-offer_passed s now client registration message held after request answer is own does =
+pub offer_passed : (timeout now : ℕ) (message : List ℕ) (held after : HeldLog) (request : LogRequest) (answer : Answer) →
+    request.source ≡ held.source → Does (offers now timeout request.decision.verdict message) held after answer →
+    Does (offer_under timeout (Some request) now message) held after answer
+offer_passed timeout now message held after request answer own does =
     record {
       on = λ log stands.
           let source : request.source ≡ log.source = rw own stands.source_is in
           let same : (request.source == log.source) ≡ true = search rules in
-          let left : offer_move s now client registration message log
-          ≡ offers now s.settings.connection_timeout request.decision.verdict message log =
-          rw (is, same) refl in
+          let left : offer_under timeout (Some request) now message log ≡ offers now timeout request.decision.verdict message log =
+          rw same refl in
           rw left (does.on log stands);
     }
 

@@ -18,8 +18,11 @@ decision_on source None = None
 decision_on source (Some request) = if request.source == source then Some request.decision else None
 
 -- an offer is decided where the client's registration is with the log
+abbrev pub offer_decision_by : Option LogRequest → WholeLog → Option Decision
+offer_decision_by request log = decision_on log.source request
+
 unfoldable pub offer_decision : State → ℕ → ℕ → WholeLog → Option Decision
-offer_decision s client registration log = decision_on log.source (offering_of s client registration)
+offer_decision s client registration = offer_decision_by (offering_of s client registration)
 
 abbrev pub poll_decision_by : Option LogRequest → Option ℕ → Option Decision
 poll_decision_by None position = None

@@ -3,7 +3,7 @@ use Rattle.std.specs.Prelude.{◌≡◌, Bool, true, false}
 use Rattle.log_steps.specs.declared.answer.Answer.{Answer}
 use Rattle.log_steps.specs.declared.answer.Answer.TheVariants.{Polled, Received, Reported, Resent, Sent}
 use Rattle.log_steps.specs.Held.{HeldLog}
-use Rattle.log_steps.specs.Moves.{WholeLog, Move, StandsForLog, given}
+use Rattle.log_steps.specs.Moves.{WholeLog, Move, StandsForLog}
 use Rattle.log_traffic.specs.Reporting.{are_some}
 
 -- fragments are given, which have to be copied, or a word for each frame, or datagrams

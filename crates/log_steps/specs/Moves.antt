@@ -60,16 +60,16 @@ abbrev pub offers : ℕ → ℕ → Verdict → List ℕ → WholeLog → Move
 offers now timeout verdict message log = offer_to now timeout verdict message log log.whole
 
 -- the client has no such registration, or with another log
-abbrev pub offer_under : State → ℕ → List ℕ → WholeLog → Option LogRequest → Move
-offer_under s now message log None = answered log (OfferedAs Closed)
-offer_under s now message log (Some request) =
+abbrev pub offer_under : ℕ → Option LogRequest → ℕ → List ℕ → WholeLog → Move
+offer_under timeout None now message log = answered log (OfferedAs Closed)
+offer_under timeout (Some request) now message log =
     if not (request.source == log.source) then answered log (OfferedAs Closed)
-    else offers now s.settings.connection_timeout request.decision.verdict message log
+    else offers now timeout request.decision.verdict message log
 
 -- the registration's number decides, then the verdict, then the log
 unfoldable pub offer_move : State → ℕ → ℕ → ℕ → List ℕ → WholeLog → Move
-offer_move s now client registration message log =
-    offer_under s now message log (offering_of s client registration)
+offer_move s now client registration message =
+    offer_under s.settings.connection_timeout (offering_of s client registration) now message
 
 -- ---- a poll
 

@@ -1,6 +1,6 @@
 //! Steps on one open log, by any view of a registry: what an actor does to the log that it is lent.
 //!
-//! An [`OpenLog`] is a value of its own. `offer_step`, `poll_step`, `packet_step`, `frames_step`, `send_step` and `image_step`
+//! An [`OpenLog`] is a value of its own. `offer_step`, `poll_step`, `packet_step`, `send_step` and `image_step`
 //! take one step on it, and report what the policy decided for it. Contracts see the log as a whole list of frames. Whoever
 //! keeps logs, in a list or each under a lock, takes these steps and no others.
 #![tactic(auto)]
@@ -33,6 +33,5 @@ pub use offering::{closed, offer_asked, offer_step};
 pub use open_log::OpenLog;
 pub use packets::{PacketRequest, packet_request, packet_step};
 pub use polling::poll_step;
-pub use receiving::frames_step;
 pub use reporting::image_step;
 pub use sending::{send_own, send_step};

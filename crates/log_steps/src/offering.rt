@@ -4,9 +4,9 @@
 
 ghost use Rattle.log_steps.specs.declared.answer.Answer.TheVariants.{Offered as OfferedAs};
 ghost use Rattle.log_steps.specs.declared.answer.Offered.TheVariants.{Closed};
-ghost use Rattle.log_steps.specs.Decided.{Decides, offer_decision};
+ghost use Rattle.log_steps.specs.Decided.{Decides, offer_decision, offer_decision_by};
 ghost use Rattle.log_steps.specs.Held.{LiesAsBefore};
-ghost use Rattle.log_steps.specs.Moves.{Does, offer_move, offers, term_held};
+ghost use Rattle.log_steps.specs.Moves.{Does, offer_move, offer_under, offers, term_held};
 ghost use Rattle.log_steps.specs.Recovery.{Recovering};
 ghost use Rattle.driver_core.specs.LogRequests.{offering_of};
 ghost use Rattle.log_traffic.specs.declared.any_log.AnyLog.TheVariants.{Term};
@@ -15,7 +15,6 @@ ghost use Rattle.std.specs.Prelude.{◌≡◌, ℕ, None, Some};
 
 use crate::answer::{Answer, Offered};
 use crate::answered::Answered;
-use crate::asking::Asks;
 use crate::open_log::OpenLog;
 use driver_core::{LogRequest, View};
 use log_traffic::AnyLog;
@@ -52,8 +51,44 @@ pub fn closed() -> Answered
     }
 }
 
-/// As [`offer_step`], where whom it asks answered that.
-#[tactic(auto, unfolding(crate::specs::Moves::offer_move))]
+/// A client offers a message to a log, at the moment `now` in nanoseconds, where that was decided of its offer, and the last
+/// status message stands for `timeout` nanoseconds. It takes no memory.
+///
+/// The answer is the first that applies: [`Offered::Closed`] where the client has no such registration, or one with another
+/// log, or the log is that of a remote stream; [`Answer::Denied`] by the verdict; [`Offered::TooLong`];
+/// [`Offered::NotConnected`]; [`Offered::MaxPositionExceeded`]; [`Offered::BackPressured`]; [`Offered::AdminAction`], by
+/// which the rest of the term is filled; else the message is appended, and the answer is the position after it. The decision
+/// is reported where the registration is with that log, whatever comes of the message.
+pub fn offer_step(
+    log: &mut OpenLog,
+    timeout: u64,
+    request: &Option<LogRequest>,
+    now: u64,
+    message: &[u8],
+) -> Answered
+    ensures does { Does (offer_under timeout request.now now message.now) log.old log.new result.answer }
+    ensures decides { Decides (offer_decision_by request.now) log.old result.decision }
+    ensures lies { LiesAsBefore log.old log.new }
+{
+    let Some(request) = request else {
+        return closed();
+    };
+    if request.source != log.source {
+        return closed();
+    }
+    let answer = match &mut log.log {
+        AnyLog::Term(term) => offer_to(term, now, timeout, request.decision.verdict, message),
+        AnyLog::Image(_) => Answer::Offered(Offered::Closed),
+    };
+    Answered {
+        answer,
+        decision: Some(request.decision),
+    }
+}
+
+/// A client offers a message to the log that its registration is with, as the registry that the view shows says, where whom
+/// it asks answered that, as [`offer_step`] says.
+#[tactic(auto, unfolding(crate::specs::Moves::offer_move, crate::specs::Decided::offer_decision))]
 #[inline(always)]
 pub fn offer_asked<V: View>(
     view: &V,
@@ -69,46 +104,6 @@ pub fn offer_asked<V: View>(
     ensures decides { Decides (offer_decision (V.shows view.now) _client _registration) log.old result.decision }
     ensures lies { LiesAsBefore log.old log.new }
 {
-    if request.source != log.source {
-        return closed();
-    }
     let timeout = view.registry().settings().connection_timeout;
-    let answer = match &mut log.log {
-        AnyLog::Term(term) => offer_to(term, now, timeout, request.decision.verdict, message),
-        AnyLog::Image(_) => Answer::Offered(Offered::Closed),
-    };
-    Answered {
-        answer,
-        decision: Some(request.decision),
-    }
-}
-
-/// A client offers a message to the log that its registration is with, at the moment `now` in nanoseconds, as the registry
-/// that the view shows says, with the verdict of whom it asks, as the client's cache. It takes no memory.
-///
-/// The answer is the first that applies: [`Offered::Closed`] where the client has no such registration, or one with another
-/// log, or the log is that of a remote stream; [`Answer::Denied`] by the policy of that registry; [`Offered::TooLong`];
-/// [`Offered::NotConnected`]; [`Offered::MaxPositionExceeded`]; [`Offered::BackPressured`]; [`Offered::AdminAction`], by
-/// which the rest of the term is filled; else the message is appended, and the answer is the position after it. The decision
-/// is reported where the registration is with that log, whatever comes of the message.
-#[tactic(auto, unfolding(crate::specs::Moves::offer_move))]
-pub fn offer_step<V: View, A: Asks>(
-    view: &V,
-    log: &mut OpenLog,
-    asker: &mut A,
-    now: u64,
-    client: u64,
-    registration: u64,
-    message: &[u8],
-) -> Answered
-    requires { A.is_right asker.old (V.shows view.now) }
-    ensures does { Does (offer_move (V.shows view.now) now client registration message.now) log.old log.new result.answer }
-    ensures decides { Decides (offer_decision (V.shows view.now) client registration) log.old result.decision }
-    ensures lies { LiesAsBefore log.old log.new }
-    ensures right { A.is_right asker.new (V.shows view.now) }
-{
-    let Some(request) = asker.offering(view.registry(), client, registration) else {
-        return closed();
-    };
-    offer_asked(view, log, now, client, registration, &request, message)
+    offer_step(log, timeout, &Some(*request), now, message)
 }

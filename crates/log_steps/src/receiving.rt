@@ -36,32 +36,6 @@ pub(crate) fn receive_step(
     Ok(Answer::Received(words))
 }
 
-/// The frames of a datagram came at a moment, for the image of that source; they are of the image's session and stream.
-///
-/// The answer is [`Astray::NoStream`] where it is the log of another source; else it is a word for each frame.
-///
-/// # Errors
-/// Nothing is changed where there is no memory for the words. Any other answer takes none.
-#[inline(always)]
-pub fn frames_step(
-    log: &mut OpenLog,
-    alloc: Global,
-    now: u64,
-    source: u64,
-    frames: Frames<'_>,
-) -> Result<Answer, AllocError>
-    requires { AreFor (made_held log.old.log) (frames_left frames) }
-    ensures does { IfOk result (λ answer. Does (for_source source (receive_move now (frames_left frames.entry)) unheard) log.old log.new answer) }
-    ensures lies { LiesAsBefore log.old log.new }
-    ensures err { OnErr result (log.new ≡ log.old) }
-    ensures without_memory { OnErr result (Gives (for_source source (receive_move now (frames_left frames.entry)) unheard) log.old) }
-{
-    if log.source() != source {
-        return Ok(Answer::Dropped(Cause::Astray(Astray::NoStream)));
-    }
-    receive_step(log, alloc, now, frames)
-}
-
 /// A heartbeat of the log's session and stream came at a moment. It takes no memory.
 pub(crate) fn beat_step(log: &mut OpenLog, now: u64, place: &TermPlace) -> Answer
     ensures does { Does (beat_move now place.now) log.old log.new result }

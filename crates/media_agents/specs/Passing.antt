@@ -1,5 +1,7 @@
 -- The turns of an agent, as they are counted for its gate. Own rules.
 use Rattle.std.specs.Prelude.{ℕ, ◌+◌, ◌-◌, ◌*◌, ◌^◌, ◌==◌, Bool, if◌then◌else◌, min, nat_le}
+use Rattle.media_agents.specs.declared.gate.Agent.{Agent}
+use Rattle.media_agents.specs.declared.gate.Agent.TheVariants.{Conductor, Receiver, Sender}
 use Rattle.media_agents.specs.declared.gate.Rest.{Rest}
 use Rattle.media_agents.specs.declared.gate.Rest.TheVariants.{Nothing, Spin, Yield, Sleep}
 use Rattle.media_agents.specs.declared.gate.Turn.{Turn}
@@ -16,14 +18,24 @@ next_turn worked watches turn = record {
   watches = watches;
 }
 
--- how long an agent sleeps after so many idle turns, in nanoseconds: a microsecond after 61, and twice as long after each further
--- one, up to a millisecond where it has something to look after, else up to ten
-abbrev pub pause_after : ℕ → Bool → ℕ
-pause_after idle watches = min (1000 * 2 ^ min (idle - 61) 14) (if watches then 1000000 else 10000000)
+-- for how long an agent sleeps at most that has nothing to look after, in nanoseconds: the conductor has its tick
+abbrev pub pause_at_rest : Agent → ℕ
+pause_at_rest Conductor = 10000000
+pause_at_rest Sender = 100000000
+pause_at_rest Receiver = 100000000
+
+-- and before any turn: with something to look after a millisecond for 200 idle turns, and then ten
+abbrev pub longest_pause : Agent → Turn → ℕ
+longest_pause agent turn = if turn.watches then (if nat_le turn.idle 200 then 1000000 else 10000000) else pause_at_rest agent
+
+-- for how long an agent sleeps after so many idle turns, in nanoseconds: a microsecond after 61, and twice as long after each
+-- further one, up to the longest
+abbrev pub pause_after : ℕ → ℕ → ℕ
+pause_after idle longest = min (1000 * 2 ^ min (idle - 61) 17) longest
 
 -- how an agent rests before a turn: it spins for 10 idle ones, yields for 50, and then sleeps
-abbrev pub rest_before : Turn → Rest
-rest_before turn =
+abbrev pub rest_before : Agent → Turn → Rest
+rest_before agent turn =
     if turn.idle == 0
     then Nothing
-    else (if nat_le turn.idle 10 then Spin else (if nat_le turn.idle 60 then Yield else Sleep (pause_after turn.idle turn.watches)))
+    else (if nat_le turn.idle 10 then Spin else (if nat_le turn.idle 60 then Yield else Sleep (pause_after turn.idle (longest_pause agent turn))))

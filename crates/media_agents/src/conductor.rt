@@ -80,7 +80,7 @@ impl<
         ensures known { self.new.known ≡ self.old.known }
         ensures turned { Turned events_made (Taking (Does L.did D.told N.home T.wrote)) (Taking (Misses L.did D.told N.home)) self.old.taker self.new.taker self.old.known (Tick now) self.old.works self.new.works result }
     {
-        self.gate.pass(Agent::Conductor, self.turn);
+        self.gate.pass(Agent::Conductor, self.turn, &[]);
         let Conductor {
             taker,
             known,

@@ -1,9 +1,10 @@
 //! What each turn of an agent passes before it does anything.
 
-ghost use Rattle.media_agents.specs.Passing.{next_turn, pause_after, rest_before};
+ghost use Rattle.media_agents.specs.Passing.{longest_pause, next_turn, pause_after, rest_before};
 ghost use Rattle.std.specs.Prelude.{◌≡◌, ◌<◌, false};
 
 use log_slots::rest;
+use media_wire::Bell;
 use std::sync::{Arc, Wait};
 use std::thread;
 use std::thread::Parker;
@@ -25,9 +26,10 @@ pub enum Agent {
 pub struct Turn {
     /// How many turns of the agent there were before; the greatest `u64` stands for more.
     pub number: u64,
-    /// How many of the last ones, one after another, had nothing to do; the greatest `u64` stands for more.
+    /// How many of the last ones, one after another, had nothing to do, or no more than what goes on where no messages come; the
+    /// greatest `u64` stands for more.
     pub idle: u64,
-    /// Whether the agent had logs or addresses to look after in the last one, of which nothing wakes it.
+    /// Whether the agent had logs or addresses to look after in the last one.
     pub watches: bool,
 }
 
@@ -57,13 +59,18 @@ impl Turn {
             watches,
         }
     }
+
+    /// Whether an agent sleeps before it.
+    pub(crate) fn sleeps(&self) -> bool {
+        self.idle > YIELDS
+    }
 }
 
 /// What each turn of an agent passes before it does anything. It may hold the agent up: an agent is served by no other thread
 /// meanwhile.
 pub trait Gate {
-    /// The agent may begin the turn once this returns.
-    fn pass(&self, agent: Agent, turn: Turn);
+    /// The agent may begin the turn once this returns. A datagram at one of these descriptors is a reason to let it pass.
+    fn pass(&self, agent: Agent, turn: Turn, sockets: &[i32]);
 }
 
 /// How many idle turns an agent spins, before it yields.
@@ -72,15 +79,22 @@ const SPINS: u64 = 10;
 /// How many idle turns an agent spins and yields, before it sleeps.
 const YIELDS: u64 = 60;
 
+/// After how many idle turns an agent that has something to look after sleeps longer than for a moment: some 130 milliseconds.
+/// Until then what is due by time, such as a second NAK, is hardly late.
+const MOMENTS: u64 = 200;
+
 /// How long an agent sleeps the first time, in nanoseconds. Each further idle turn doubles it.
 const SHORTEST: u64 = 1_000;
 
-/// How long an agent sleeps at most that has something to look after, in nanoseconds.
-const WATCHFUL: u64 = 1_000_000;
+/// For how long an agent sleeps at most that has something to look after, at first, in nanoseconds.
+const MOMENT: u64 = 1_000_000;
 
-/// How long any other sleeps at most, in nanoseconds. The conductor is woken by each event that is pushed, and the others find
-/// their first log within that time.
+/// For how long the conductor sleeps at most, and any agent that has something to look after: no tick, heartbeat or report is
+/// later than that.
 const LONGEST: u64 = 10_000_000;
+
+/// For how long the sender and the receiver sleep at most where nothing can be due.
+const AT_REST: u64 = 100_000_000;
 
 /// How many steps an agent that spins rests before a turn: a quarter of a microsecond.
 const STEPS: u32 = 32;
@@ -95,19 +109,36 @@ pub enum Rest {
     Sleep(u64),
 }
 
-/// How long an agent sleeps after so many idle turns, in nanoseconds.
-fn pause_after(idle: u64, watches: bool) -> u64
-    requires { 60 < idle }
-    ensures { result ≡ pause_after idle watches }
+/// For how long an agent sleeps at most before a turn, in nanoseconds.
+fn longest_pause(agent: Agent, turn: Turn) -> u64
+    ensures { result ≡ longest_pause agent turn }
 {
-    let doubled = (idle - YIELDS - 1).min(14);
-    let longest = if watches { WATCHFUL } else { LONGEST };
+    if turn.watches {
+        if turn.idle <= MOMENTS {
+            MOMENT
+        } else {
+            LONGEST
+        }
+    } else {
+        match agent {
+            Agent::Conductor => LONGEST,
+            Agent::Sender | Agent::Receiver => AT_REST,
+        }
+    }
+}
+
+/// For how long an agent sleeps after so many idle turns, in nanoseconds.
+fn pause_after(idle: u64, longest: u64) -> u64
+    requires { 60 < idle }
+    ensures { result ≡ pause_after idle longest }
+{
+    let doubled = (idle - YIELDS - 1).min(17);
     (SHORTEST << doubled).min(longest)
 }
 
 /// How an agent rests before a turn.
-fn rest_before(turn: Turn) -> Rest
-    ensures { result ≡ rest_before turn }
+fn rest_before(agent: Agent, turn: Turn) -> Rest
+    ensures { result ≡ rest_before agent turn }
 {
     if turn.idle == 0 {
         Rest::Nothing
@@ -116,41 +147,80 @@ fn rest_before(turn: Turn) -> Rest
     } else if turn.idle <= YIELDS {
         Rest::Yield
     } else {
-        Rest::Sleep(pause_after(turn.idle, turn.watches))
+        Rest::Sleep(pause_after(turn.idle, longest_pause(agent, turn)))
+    }
+}
+
+/// What wakes the agents of a driver that sleep. Each is rung by whoever changed what that one looks at.
+#[derive(Drop)]
+pub struct Bells {
+    /// By whoever pushes an event.
+    pub(crate) conductor: Parker,
+    /// By the conductor after its entries, and by clients whose messages a log over datagrams took.
+    pub(crate) sender: Bell,
+    /// By the conductor after its entries, and by clients that took messages of an image.
+    pub(crate) receiver: Bell,
+}
+
+impl Bells {
+    /// Nobody sleeps.
+    pub fn new() -> Bells {
+        Bells {
+            conductor: Parker::new(),
+            sender: Bell::new(),
+            receiver: Bell::new(),
+        }
     }
 }
 
 /// The gate of a driver that runs: an agent that has something to do goes on at once. One that has nothing to do spins at
-/// first, then yields to other threads, and then sleeps, twice as long each time: up to a millisecond where it has logs or
-/// addresses to look after, else up to ten. Whoever pushes an event rings the conductor's bell, which ends its sleep.
+/// first, then yields to other threads, and then sleeps, twice as long each time: where it has logs or addresses to look after
+/// up to a millisecond for its first 200 idle turns, and then up to ten; else up to a hundred, the conductor up to ten.
+/// What it waits for ends its sleep: a bell, and for the sender and the receiver a datagram. Only a sleep of less than a
+/// millisecond of theirs lasts.
 #[derive(Drop)]
 pub struct Backoff<R> {
     /// By which agents sleep.
     rt: R,
-    /// The conductor's.
-    bell: Arc<Parker>,
+    bells: Arc<Bells>,
 }
 
 impl<R> Backoff<R> {
-    /// The gate of agents that sleep by `rt`, of which the conductor is woken by that bell.
-    pub fn new(rt: R, bell: Arc<Parker>) -> Backoff<R> {
-        Backoff { rt, bell }
+    /// The gate of agents that sleep by `rt` and are woken by those bells.
+    pub fn new(rt: R, bells: Arc<Bells>) -> Backoff<R> {
+        Backoff { rt, bells }
+    }
+}
+
+impl<R: Clock + Wait> Backoff<R> {
+    fn sleep(&self, bell: &Bell, nanoseconds: u64, sockets: &[i32]) {
+        if nanoseconds < MOMENT {
+            thread::sleep(&self.rt, Duration::from_nanos(nanoseconds));
+        } else {
+            bell.wait(sockets, (nanoseconds.min(AT_REST) / MOMENT) as i32);
+        }
     }
 }
 
 impl<R: Clock + Wait> Gate for Backoff<R> {
-    fn pass(&self, agent: Agent, turn: Turn) {
-        match rest_before(turn) {
-            Rest::Nothing => {}
-            Rest::Spin => rest(STEPS),
-            Rest::Yield => thread::yield_now(),
-            Rest::Sleep(nanoseconds) => {
-                let pause = Duration::from_nanos(nanoseconds);
-                match agent {
-                    Agent::Conductor => self.bell.park_timeout(&self.rt, pause),
-                    _ => thread::sleep(&self.rt, pause),
+    fn pass(&self, agent: Agent, turn: Turn, sockets: &[i32]) {
+        let bells = &*self.bells;
+        match rest_before(agent, turn) {
+            Rest::Nothing => {
+                if agent == Agent::Conductor {
+                    bells.sender.ring();
+                    bells.receiver.ring();
                 }
             }
+            Rest::Spin => rest(STEPS),
+            Rest::Yield => thread::yield_now(),
+            Rest::Sleep(nanoseconds) => match agent {
+                Agent::Conductor => bells
+                    .conductor
+                    .park_timeout(&self.rt, Duration::from_nanos(nanoseconds)),
+                Agent::Sender => self.sleep(&bells.sender, nanoseconds, sockets),
+                Agent::Receiver => self.sleep(&bells.receiver, nanoseconds, sockets),
+            },
         }
     }
 }

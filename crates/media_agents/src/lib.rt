@@ -41,7 +41,7 @@ pub use conductor::Conductor;
 pub use desk::{Desk, DeskAnswers, Desks};
 pub use drop_tallies::{Miss, Repairs, Tallies, Tally};
 pub use eliciting::{ElicitFault, Elicitation, Elicitations, Elicited, make_elicitations};
-pub use gate::{Agent, Backoff, Gate, Turn};
+pub use gate::{Agent, Backoff, Bells, Gate, Turn};
 pub use journal::{Dated, Journal, Stamp};
 pub use listing::ImageAt;
 pub use mail::{ClientReply, Mail};

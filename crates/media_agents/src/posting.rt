@@ -5,11 +5,11 @@ ghost use Rattle.command_queue.specs.Facts.{DidHold, WasFull};
 ghost use Rattle.driver_core.specs.declared.state.event.Event.{Event as Happening};
 ghost use Rattle.std.specs.Prelude.{◌≡◌, ◌≤◌, ◌++◌, ◌∷◌, [], MatchResult, OnErr};
 
+use crate::gate::Bells;
 use command_queue::{Known, Refused, Sender};
 use driver_core::Event;
 use std::marker::Model;
 use std::sync::{Arc, Wait};
-use std::thread::Parker;
 
 /// A sender of events, with what is known of their queue: whatever that is, the queue's answers fit it. It may go to another
 /// thread.
@@ -17,8 +17,8 @@ use std::thread::Parker;
 pub struct EventSender {
     sender: Sender<Event>,
     known: Known<Event>,
-    /// It wakes the conductor where that sleeps.
-    bell: Arc<Parker>,
+    /// They wake the agents that sleep.
+    bells: Arc<Bells>,
 }
 
 impl Model for EventSender {
@@ -34,8 +34,8 @@ impl Model for EventSender {
 }
 
 impl EventSender {
-    /// Events go by this sender of the queue, whose conductor is woken by that bell.
-    pub fn new(sender: Sender<Event>, bell: Arc<Parker>) -> EventSender
+    /// Events go by this sender of the queue, whose conductor is woken by one of those bells.
+    pub fn new(sender: Sender<Event>, bells: Arc<Bells>) -> EventSender
         ensures { result ≡ sender }
     {
         let mut sender = sender;
@@ -43,8 +43,18 @@ impl EventSender {
         EventSender {
             sender,
             known,
-            bell,
+            bells,
         }
+    }
+
+    /// A log over datagrams took a message: the sender is woken where it sleeps.
+    pub fn wake_sender(&self) {
+        self.bells.sender.ring();
+    }
+
+    /// Messages of an image were taken: the receiver is woken where it sleeps.
+    pub fn wake_receiver(&self) {
+        self.bells.receiver.ring();
     }
 
     /// Puts an event at the back of the queue, and wakes the conductor where it sleeps. `Refused` hands the event back, only where
@@ -57,10 +67,10 @@ impl EventSender {
         let EventSender {
             sender,
             known,
-            bell,
+            bells,
         } = self;
         let pushed = sender.push(rt, known, event);
-        bell.unpark();
+        bells.conductor.unpark();
         pushed
     }
 
@@ -73,7 +83,7 @@ impl EventSender {
         let EventSender {
             sender,
             known,
-            bell: _,
+            bells: _,
         } = self;
         sender.len(rt, known)
     }

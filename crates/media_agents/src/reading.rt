@@ -4,15 +4,48 @@ ghost use Rattle.media_agents.specs.Acts.{GoesOn, Trail};
 ghost use Rattle.media_agents.specs.Traffic.{IsReading};
 ghost use Rattle.std.specs.Prelude.{◌≡◌, ◌≤◌, ◌∷◌, [], IfSome, take, vec_len};
 
+use crate::gate::Turn;
 use crate::stepping::Stepping;
 use channel_uri::Address;
 use drop_tallies::Miss;
+use frame_codec::Setup;
 use media_wire::{LONGEST, Wire};
+use rows::Rows;
 use std::alloc::{AllocError, Global};
 use std::sync::Wait;
 
 /// How many datagrams a turn reads at one address at most.
 pub(crate) const MOST: u32 = 1024;
+
+/// Where datagrams come: the descriptors of sockets.
+pub(crate) type Sockets = Rows<i32, 512>;
+
+/// Notes the socket at an address, if there is one.
+fn note_socket<W: Wire>(wire: &W, at: &Address, sockets: &mut Sockets) {
+    if let Some(socket) = wire.descriptor(at) {
+        if sockets.len() < 512 {
+            sockets.push(socket);
+        }
+    }
+}
+
+/// Notes those at each of these addresses, if an agent sleeps before that turn.
+pub(crate) fn note_sockets<W: Wire>(turn: Turn, wire: &W, all: &[Address], sockets: &mut Sockets) {
+    if !turn.sleeps() {
+        return;
+    }
+    for at in all {
+        note_socket(wire, at, sockets);
+    }
+}
+
+/// A datagram of that length went or came: whether there was one that may have messages, since it is longer than a SETUP. What
+/// else comes and goes does so now and then on logs that nobody uses too.
+pub(crate) fn note_length(lively: &mut bool, length: usize) {
+    if length > Setup::SIZE {
+        *lively = true;
+    }
+}
 
 /// Room for the longest datagram.
 #[derive(Drop)]

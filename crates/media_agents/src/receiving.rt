@@ -14,12 +14,12 @@ use crate::gate::{Agent, Gate, Turn};
 use crate::hearing::hear_as_receiver;
 use crate::listing::ImageAt;
 use crate::posting::EventSender;
-use crate::reading::{MOST, Room};
+use crate::reading::{MOST, Room, Sockets, note_length, note_sockets};
 use crate::set_ups::SetUps;
 use crate::stepping::Stepping;
+use crate::tallying::is_asking;
 use crate::telling::tell;
 use channel_uri::Address;
-use log_steps::Answer;
 use media_wire::Wire;
 use published_registry::Pass;
 use rows::Rows;
@@ -28,7 +28,7 @@ use std::marker::Model;
 use std::sync::{Arc, Wait};
 
 /// Reads the datagrams at an address where subscriptions take them: until none is there, a read fails, or 1,024 are read.
-/// Whether there was one.
+/// Whether there was one that may have messages.
 fn hear_all<R: Wait, S: Stepping, W: Wire>(
     rt: &R,
     steps: &mut S,
@@ -45,18 +45,20 @@ fn hear_all<R: Wait, S: Stepping, W: Wire>(
     ensures set_ups { SetsUp now set_ups.old set_ups.new }
 {
     let mut pass = pass;
-    for count in 0..MOST {
+    let mut lively = false;
+    for _count in 0..MOST {
         match room.next(rt, steps, wire, local) {
             Some(read) => {
                 let bytes = room.datagram(read.0);
                 pass = hear_as_receiver(
                     rt, steps, pass, set_ups, alloc, now, local, &read.1, bytes,
                 );
+                note_length(&mut lively, read.0);
             }
-            None => return (pass, count > 0),
+            None => return (pass, lively),
         }
     }
-    (pass, true)
+    (pass, lively)
 }
 
 /// The same at each of these addresses.
@@ -85,16 +87,8 @@ fn hear_each<R: Wait, S: Stepping, W: Wire>(
     (pass, worked)
 }
 
-/// Whether there are datagrams to send.
-fn is_due(answer: &Answer) -> bool {
-    match answer {
-        Answer::Reported { datagrams, .. } => !datagrams.is_empty(),
-        _ => false,
-    }
-}
-
 /// One turn with one image: what is due is noted, and goes out, from the address at which the image reads, once the log's lock is
-/// let go. So what is sent again comes to where the image reads it. Whether anything was due.
+/// let go. So what is sent again comes to where the image reads it. Whether a NAK was due.
 fn report_one<R: Wait, S: Stepping, W: Wire>(
     rt: &R,
     steps: &mut S,
@@ -112,14 +106,14 @@ fn report_one<R: Wait, S: Stepping, W: Wire>(
         Some(it) => {
             steps.note_turn(rt, &it);
             tell(rt, steps, wire, &image.endpoint, &it.answer);
-            let due = is_due(&it.answer);
+            let due = is_asking(&it.answer);
             (pass, due)
         }
         None => (pass, false),
     }
 }
 
-/// One turn with each of these images, in their order. Whether anything was due.
+/// One turn with each of these images, in their order. Whether a NAK was due.
 fn report_each<R: Wait, S: Stepping, W: Wire>(
     rt: &R,
     steps: &mut S,
@@ -155,6 +149,8 @@ pub struct ReceiverAgent<S, G: Gate> {
     endpoints: Rows<Address, 512>,
     /// The images of the turn.
     images: Rows<ImageAt, 512>,
+    /// Where it waits for datagrams.
+    sockets: Sockets,
     elicited: Elicited,
     alloc: Global,
     /// The greatest moment of its turns, in nanoseconds.
@@ -199,6 +195,7 @@ impl<S: Stepping + Drop, G: Gate + Drop> ReceiverAgent<S, G> {
             room: Room::new(alloc)?,
             endpoints: Rows::new(alloc)?,
             images: Rows::new(alloc)?,
+            sockets: Rows::new(alloc)?,
             elicited,
             alloc,
             moment: 0,
@@ -221,7 +218,15 @@ impl<S: Stepping + Drop, G: Gate + Drop> ReceiverAgent<S, G> {
         ensures queue { SetsUpFew self.new.moment self.old.queue self.new.queue }
         ensures receives { ReceivesBy self.old self.new (Trail (S.did self.old.steps) (W.went wire.old)) (Trail (S.did self.new.steps) (W.went wire.new)) }
     {
-        self.gate.pass(Agent::Receiver, self.turn);
+        self.sockets.clear();
+        note_sockets(
+            self.turn,
+            wire,
+            self.endpoints.as_slice(),
+            &mut self.sockets,
+        );
+        self.gate
+            .pass(Agent::Receiver, self.turn, self.sockets.as_slice());
         let Some(pass) = self.pass.take() else {
             unreachable!()
         };

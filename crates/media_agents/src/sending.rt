@@ -12,11 +12,12 @@ use crate::finding::{find_controls, find_publications};
 use crate::gate::{Agent, Gate, Turn};
 use crate::hearing::hear_as_sender;
 use crate::noting::is_cut;
-use crate::reading::{MOST, Room};
+use crate::reading::{MOST, Room, Sockets, note_length, note_sockets};
 use crate::slots::LogAt;
 use crate::stepping::Stepping;
 use crate::telling::tell;
 use channel_uri::Address;
+use log_steps::Answer;
 use media_wire::Wire;
 use published_registry::Pass;
 use rows::Rows;
@@ -24,7 +25,8 @@ use std::alloc::{AllocError, Global};
 use std::marker::Model;
 use std::sync::{Arc, Wait};
 
-/// Reads the datagrams at the address `at`: until none is there, a read fails, or 1,024 are read. Whether there was one.
+/// Reads the datagrams at the address `at`: until none is there, a read fails, or 1,024 are read. Whether there was one that may
+/// have messages.
 fn hear_all<R: Wait, S: Stepping, W: Wire>(
     rt: &R,
     steps: &mut S,
@@ -40,16 +42,18 @@ fn hear_all<R: Wait, S: Stepping, W: Wire>(
     ensures hears { GoesOn (HearsOut (SenderTakes now local.now) at.now pass result.0) (Trail (S.did steps.old) (W.went wire.old)) (Trail (S.did steps.new) (W.went wire.new)) }
 {
     let mut pass = pass;
-    for count in 0..MOST {
+    let mut lively = false;
+    for _count in 0..MOST {
         match room.next(rt, steps, wire, at) {
             Some(read) => {
                 let bytes = room.datagram(read.0);
                 pass = hear_as_sender(rt, steps, pass, wire, alloc, now, local, at, &read.1, bytes);
+                note_length(&mut lively, read.0);
             }
-            None => return (pass, count > 0),
+            None => return (pass, lively),
         }
     }
-    (pass, true)
+    (pass, lively)
 }
 
 /// The same at each of these addresses.
@@ -77,6 +81,13 @@ fn hear_each<R: Wait, S: Stepping, W: Wire>(
     (pass, worked)
 }
 
+/// A datagram that was cut may have messages.
+fn note_cut(lively: &mut bool, answer: &Answer) {
+    if let Answer::Sent { bytes, .. } = answer {
+        note_length(lively, bytes.as_slice().len());
+    }
+}
+
 /// One turn with one log: what is due is noted, and goes out once the log's lock is let go. Whether anything was due.
 fn send_one<R: Wait, S: Stepping, W: Wire>(
     rt: &R,
@@ -87,6 +98,7 @@ fn send_one<R: Wait, S: Stepping, W: Wire>(
     now: u64,
     local: &Address,
     at: LogAt,
+    lively: &mut bool,
 ) -> (Pass, bool)
     ensures known { IsContinuedBy pass result.0 }
     ensures sends { (it : Option It) × (result.1 ≡ was_due it)
@@ -97,6 +109,7 @@ fn send_one<R: Wait, S: Stepping, W: Wire>(
         Some(it) => {
             steps.note_sending(rt, &it);
             tell(rt, steps, wire, local, &it.answer);
+            note_cut(lively, &it.answer);
             let due = is_cut(&it.answer);
             (pass, due)
         }
@@ -107,7 +120,8 @@ fn send_one<R: Wait, S: Stepping, W: Wire>(
 /// How many datagrams of one log go out in a turn at most.
 const BURST: u32 = 16;
 
-/// Turns with one log, one after another: until nothing is due, or so many had something due. Whether anything was.
+/// Turns with one log, one after another: until nothing is due, or so many had something due. Whether a datagram may have
+/// messages.
 fn send_run<R: Wait, S: Stepping, W: Wire>(
     rt: &R,
     steps: &mut S,
@@ -122,17 +136,18 @@ fn send_run<R: Wait, S: Stepping, W: Wire>(
     ensures sends { GoesOn (SendsRun now local.now at pass result.0) (Trail (S.did steps.old) (W.went wire.old)) (Trail (S.did steps.new) (W.went wire.new)) }
 {
     let mut pass = pass;
-    for count in 0..BURST {
-        let (next, sent) = send_one(rt, steps, pass, wire, alloc, now, local, at);
+    let mut lively = false;
+    for _count in 0..BURST {
+        let (next, sent) = send_one(rt, steps, pass, wire, alloc, now, local, at, &mut lively);
         if !sent {
-            return (next, count > 0);
+            return (next, lively);
         }
         pass = next;
     }
-    (pass, true)
+    (pass, lively)
 }
 
-/// The turns that are due with each of these logs, in their order. Whether any was.
+/// The turns that are due with each of these logs, in their order. Whether a datagram may have messages.
 fn send_each<R: Wait, S: Stepping, W: Wire>(
     rt: &R,
     steps: &mut S,
@@ -170,6 +185,8 @@ pub struct SenderAgent<S, G: Gate> {
     controls: Rows<Address, 512>,
     /// The logs of the turn.
     all: Rows<LogAt, 256>,
+    /// Where it waits for datagrams.
+    sockets: Sockets,
     alloc: Global,
     /// The greatest moment of its turns, in nanoseconds.
     moment: u64,
@@ -212,6 +229,7 @@ impl<S: Stepping + Drop, G: Gate + Drop> SenderAgent<S, G> {
             room: Room::new(alloc)?,
             controls: Rows::new(alloc)?,
             all: Rows::new(alloc)?,
+            sockets: Rows::new(alloc)?,
             alloc,
             moment: 0,
             turn: Turn::first(),
@@ -231,7 +249,11 @@ impl<S: Stepping + Drop, G: Gate + Drop> SenderAgent<S, G> {
         ensures turn { (worked : Bool) × (watches : Bool) × (self.new.turn ≡ next_turn worked watches self.old.turn) }
         ensures sends { GoesOn (Sends self.new.moment self.old.local self.old.known self.new.known) (Trail (S.did self.old.steps) (W.went wire.old)) (Trail (S.did self.new.steps) (W.went wire.new)) }
     {
-        self.gate.pass(Agent::Sender, self.turn);
+        self.sockets.clear();
+        note_sockets(self.turn, wire, &[self.local], &mut self.sockets);
+        note_sockets(self.turn, wire, self.controls.as_slice(), &mut self.sockets);
+        self.gate
+            .pass(Agent::Sender, self.turn, self.sockets.as_slice());
         let Some(pass) = self.pass.take() else {
             unreachable!()
         };

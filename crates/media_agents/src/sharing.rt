@@ -43,6 +43,16 @@ impl Model for CommandSender {
 }
 
 impl CommandSender {
+    /// A log over datagrams took a message: the sender is woken where it sleeps.
+    pub fn wake_sender(&self) {
+        self.sender.wake_sender();
+    }
+
+    /// Messages of an image were taken: the receiver is woken where it sleeps.
+    pub fn wake_receiver(&self) {
+        self.sender.wake_receiver();
+    }
+
     /// Puts a command at the back of the queue.
     ///
     /// # Errors

@@ -15,7 +15,7 @@ const SLOTS: u8 = 3;
 pub struct Open;
 
 impl Gate for Open {
-    fn pass(&self, _agent: Agent, _turn: Turn) {}
+    fn pass(&self, _agent: Agent, _turn: Turn, _sockets: &[i32]) {}
 }
 
 // A value that several agents have.

@@ -11,15 +11,14 @@ use driver_core::Event;
 use log_arena::Arena;
 use log_slots::Region;
 use media_agents::{
-    Acknowledgements, CommandSender, Conductor, DeskAnswers, DriverNaming, EventSender, Ring,
-    Rings, Slots, Steps, Works, share,
+    Acknowledgements, Bells, CommandSender, Conductor, DeskAnswers, DriverNaming, EventSender,
+    Ring, Rings, Slots, Steps, Works, share,
 };
 use published_registry::Publisher;
 use rows::Rows;
 use rtrb::RingBuffer;
 use std::alloc::{AllocError, Global};
 use std::sync::{Arc, Wait};
-use std::thread::Parker;
 
 // One ring, whose replies nobody takes.
 fn rings<N: DriverNaming>(alloc: Global, share: Acknowledgements) -> Result<Rings<N>, AllocError> {
@@ -42,8 +41,8 @@ impl Queue {
     fn new(alloc: Global) -> Result<Queue, AllocError> {
         let (mut senders, taker) = command_queue::make(alloc, 3)?;
         let sender = senders.pop().ok_or(AllocError)?;
-        let bell = Arc::new(alloc, Parker::new()).map_err(|_| AllocError)?;
-        let (client, share) = share(alloc, EventSender::new(sender, bell))?;
+        let bells = Arc::new(alloc, Bells::new()).map_err(|_| AllocError)?;
+        let (client, share) = share(alloc, EventSender::new(sender, bells))?;
         Ok(Queue {
             client,
             share,

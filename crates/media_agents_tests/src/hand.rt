@@ -5,14 +5,13 @@ use crate::onlooker::{Onlooker, Sight};
 use command_queue::Sender;
 use driver_core::{Address, Event};
 use media_agents::{
-    DriverNaming, ElicitFault, Elicitation, Elicitations, Elicited, EventSender, ReceiverAgent,
-    SenderAgent, Steps, make_elicitations,
+    Bells, DriverNaming, ElicitFault, Elicitation, Elicitations, Elicited, EventSender,
+    ReceiverAgent, SenderAgent, Steps, make_elicitations,
 };
 use media_wire::Wire;
 use published_registry::Pass;
 use std::alloc::{AllocError, Global};
 use std::sync::{Arc, Wait};
-use std::thread::Parker;
 
 // By what the agents reach the conductor and its registry: passes for looks, and ends of the queue.
 #[derive(Drop)]
@@ -30,8 +29,8 @@ impl Ends {
     // An end of the queue that was not given yet. Nobody sleeps who would have to be woken.
     fn sender(&mut self, alloc: Global) -> Result<EventSender, AllocError> {
         let sender = self.senders.pop().ok_or(AllocError)?;
-        let bell = Arc::new(alloc, Parker::new()).map_err(|_| AllocError)?;
-        Ok(EventSender::new(sender, bell))
+        let bells = Arc::new(alloc, Bells::new()).map_err(|_| AllocError)?;
+        Ok(EventSender::new(sender, bells))
     }
 }
 

@@ -4,3 +4,5 @@ pub mod MailLemmas
 pub mod OfferLemmas
 pub mod OpeningLemmas
 pub mod PassLemmas
+pub mod RememberLemmas
+pub mod RunLemmas

@@ -6,4 +6,6 @@ pub mod Faults
 pub mod Parts
 pub mod Positions
 pub mod Reloading
+pub mod Remembering
+pub mod Runs
 pub mod Steps

@@ -77,6 +77,7 @@ impl<N: DriverNaming, R: Threads + Wait, C: Clock + Copy> Driver<N, R, C> {
             alloc: self.alloc,
             offered: None,
             polled: None,
+            said: None,
             pace: 0,
         };
         client.learn(receipt);

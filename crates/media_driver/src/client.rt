@@ -4,6 +4,7 @@ ghost use Rattle.media_driver.specs.Clients.{Learns};
 ghost use Rattle.std.specs.Prelude.{◌≡◌, ◌≤◌};
 
 use crate::offering::Found;
+use crate::remembering::Said;
 use audit_ring::AuditOf;
 use decision_cache::Cache;
 use log_slots::{Amount, AtEnd, OfClients};
@@ -45,6 +46,8 @@ pub struct Client<N: DriverNaming, C: Clock> {
     pub(crate) alloc: Global,
     /// Where the log of the last offer is, by its registration.
     pub(crate) offered: Option<(u64, Found)>,
+    /// What was decided of the last offer, and by which registry.
+    pub(crate) said: Option<Said>,
     /// Where the log of the last poll is.
     pub(crate) polled: Option<LogAt>,
     /// How many steps the next poll rests first.
@@ -54,6 +57,7 @@ pub struct Client<N: DriverNaming, C: Clock> {
 impl<N: DriverNaming, C: Clock> Model for Client<N, C> {
     ghost use Rattle.driver_core.specs.Cached.{AreCached};
     ghost use Rattle.media_driver.specs.Clients.{Attached};
+    ghost use Rattle.media_driver.specs.Remembering.{IsRemembered};
     ghost use Rattle.published_registry.specs.Histories.{history_in, registry_of};
     ghost use Rattle.rtrb.specs.Ring.{known_items, received};
     ghost use Rattle.std.specs.Prelude.{◌≡◌, IsSome, is_some};
@@ -74,7 +78,8 @@ impl<N: DriverNaming, C: Clock> Model for Client<N, C> {
     } };
 
     ghost invariant = { λ client. IsSome client.pass × ((history_in client.pass).book ≡ N.book)
-        × AreCached (registry_of (history_in client.pass)) client.cache × (client.counted.parts ≡ 1) × (client.part.parts ≡ 1) };
+        × AreCached (registry_of (history_in client.pass)) client.cache × (client.counted.parts ≡ 1) × (client.part.parts ≡ 1)
+        × IsRemembered client.number client.said (history_in client.pass) };
 }
 
 impl<N: DriverNaming, C: Clock> Client<N, C> {

@@ -116,9 +116,9 @@ impl<
                 return Err(StartFault::Clock(fault));
             }
         };
-        match parts.bell() {
-            Ok(bell) => {
-                let gate = Backoff::new(rt, bell);
+        match parts.bells() {
+            Ok(bells) => {
+                let gate = Backoff::new(rt, bells);
                 Driver::start_gated(rt, alloc, parts, wire, clock, gate)
             }
             Err(_) => {

@@ -23,6 +23,7 @@ mod polling;
 mod positions;
 mod preparing;
 mod reloading;
+mod remembering;
 mod seat;
 mod seats;
 mod starting;
@@ -41,8 +42,9 @@ pub use faults::{
 };
 pub use log_slots::PublicationPositions;
 pub use media_agents::{
-    Agent, ClientReply, Clock, Dated, DriverNaming, ElicitFault, Elicitation, Gate, Mail, Miss,
-    Repairs, Stamp, Tallies, Tally,
+    Agent, Bells, ClientReply, Clock, Dated, DriverNaming, ElicitFault, Elicitation, Gate, Mail,
+    Miss, Repairs, Stamp, Tallies, Tally,
 };
+pub use offering::Messages;
 pub use parts::Parts;
 pub use positions::ImagePositions;

@@ -11,19 +11,25 @@ ghost use Rattle.media_agents.specs.declared.journal.Dated.{Dated};
 ghost use Rattle.media_agents.specs.Journals.{stamp_of};
 ghost use Rattle.media_driver.specs.Audits.{IsDecided, KeepsOffered, ReportsOffer};
 ghost use Rattle.media_driver.specs.Clients.{Looks};
+ghost use Rattle.media_driver.specs.Remembering.{IsRemembered};
+ghost use Rattle.media_driver.specs.Runs.{Offers, OffersOn, with_offer};
 ghost use Rattle.media_driver.specs.Steps.{Counts, IsOffer, IsStep, offer_answer};
 ghost use Rattle.published_registry.specs.Histories.{IsContinuedBy, registry_of};
-ghost use Rattle.std.specs.Prelude.{◌≡◌, ◌+◌, ◌≤◌, ◌⊎◌, IfErr, IfNone, IfSome, IsSome, Err, None};
+ghost use Rattle.media_driver.specs.Clients.{Attached};
+ghost use Rattle.std.specs.Option.{option_map};
+ghost use Rattle.std.specs.Prelude.{◌≡◌, ℕ, ◌+◌, ◌≤◌, ◌⊎◌, List, Option, IfErr, IfNone, IfSome, IsSome, is_some, Err, None};
 
 use crate::auditing::tell;
 use crate::client::Client;
 use crate::faults::OfferFault;
+use crate::remembering::{Said, said_now};
+use audit_ring::AuditOf;
 use channel_uri::Media;
 use decision_cache::Cache;
 use driver_core::View;
 use log_slots::{Amount, AtEnd, Slot, lock_soon};
 use log_steps::{Answer, Offered};
-use media_agents::{Clock, DriverNaming, LogAt, Stamp, Stepped};
+use media_agents::{Clock, Dated, DriverNaming, LogAt, Stepped};
 use published_registry::{Pass, caches_stay_right_of_later_looks};
 use std::sync::{Mutex, Wait};
 
@@ -58,12 +64,13 @@ fn log_at(registry: &driver_core::Registry, client: u64, registration: u64) -> O
     })
 }
 
-/// One hold of a log's lock, with one look within it. Where no more messages are counted, `ended` has that from then on.
-fn offer_once<N: DriverNaming, R: Wait>(
-    rt: &R,
-    slot: &Mutex<Slot<N>>,
+/// An offer to the log whose lock is held, with one look, or none where what was decided is remembered. Where no more messages
+/// are counted, `ended` has that from then on.
+fn offer_held<N: DriverNaming>(
+    slot: &mut Slot<N>,
     pass: Pass,
     cache: &mut Cache,
+    remembered: &mut Option<Said>,
     mine: &mut Amount<N>,
     ended: &mut Option<AtEnd<N>>,
     now: u64,
@@ -73,35 +80,24 @@ fn offer_once<N: DriverNaming, R: Wait>(
 ) -> (Pass, Option<Stepped>)
     requires part { mine.old.parts ≡ 1 }
     requires right { AreCached (registry_of pass) cache.old }
+    requires remembered { IsRemembered client remembered.old pass }
     ensures known { IsContinuedBy pass result.0 }
     ensures part { mine.new.parts ≡ 1 }
     ensures right { AreCached (registry_of result.0) cache.new }
+    ensures remembered { IsRemembered client remembered.new result.0 }
     ensures counted { IfSome result.1 (λ told. (mine.new.number ≡ mine.old.number + taken_by told.answer) ⊎ ((mine.new.number ≡ mine.old.number) × IsSome ended.new)) }
     ensures none { IfNone result.1 (mine.new.number ≡ mine.old.number) }
     ensures stamp { IfSome result.1 (λ told. told.stamp ≡ stamp_of result.0) }
     ensures step { IfSome result.1 (λ told. IsStep N.home (offer_move (registry_of result.0) now client registration message.now) (OfferedAs Closed) told.answer) }
     ensures decides { IfSome result.1 (λ told. IsDecided N.home (offer_move (registry_of result.0) now client registration message.now) (offer_decision (registry_of result.0) client registration) (OfferedAs Closed) told.answer told.decision) }
 {
-    caches_stay_right_of_later_looks();
-    let mut slot = lock_soon(rt, slot);
     slot.holds();
-    match pass.enter() {
-        Ok(look) => {
-            let told = slot.offer(
-                mine,
-                ended,
-                &look,
-                cache,
-                now,
-                client,
-                registration,
-                message,
-            );
-            let told = Stepped::of(told, Stamp::of(&look));
-            (look.leave(), Some(told))
-        }
-        Err(pass) => (pass, None),
-    }
+    let (pass, said) = said_now(pass, cache, remembered, client, registration);
+    let Some(said) = said else {
+        return (pass, None);
+    };
+    let told = slot.offer(mine, ended, said.timeout, &said.request, now, message);
+    (pass, Some(Stepped::of(told, said.stamp)))
 }
 
 /// What the answer of a step says.
@@ -119,6 +115,104 @@ fn position_of(told: &Stepped) -> Result<u64, OfferFault>
         Answer::Offered(Offered::AdminAction) => Err(OfferFault::AdminAction),
         Answer::Denied(verdict) => Err(OfferFault::Denied(*verdict)),
         _ => Err(OfferFault::Closed),
+    }
+}
+
+/// Messages that go one after another.
+pub trait Messages {
+    /// The next one, if there is one.
+    ghost next_is: { Self → Option (List ℕ) };
+
+    /// The next one was taken, and is the next no longer.
+    ghost went: { Self → ℕ → Self → Type 0 };
+
+    /// The next one.
+    fn next(&self) -> Option<&[u8]>
+        ensures { option_map (λ message. message.now) result ≡ next_is self.now };
+
+    /// The log took it: that is the position after it.
+    fn taken(&mut self, position: u64)
+        ensures { went self.old position self.new };
+}
+
+/// Offers messages one after another in one hold of a log's lock, so many at most, until one is not taken.
+fn offer_run<N: DriverNaming, M: Messages, R: Wait>(
+    rt: &R,
+    slot: &Mutex<Slot<N>>,
+    pass: Pass,
+    cache: &mut Cache,
+    remembered: &mut Option<Said>,
+    mine: &mut Amount<N>,
+    ended: &mut Option<AtEnd<N>>,
+    audit: &mut AuditOf<Dated>,
+    now: u64,
+    client: u64,
+    registration: u64,
+    messages: &mut M,
+    most: u32,
+) -> (Pass, Result<(), OfferFault>)
+    requires part { mine.old.parts ≡ 1 }
+    requires right { AreCached (registry_of pass) cache.old }
+    requires remembered { IsRemembered client remembered.old pass }
+    ensures known { IsContinuedBy pass result.0 }
+    ensures part { mine.new.parts ≡ 1 }
+    ensures right { AreCached (registry_of result.0) cache.new }
+    ensures remembered { IsRemembered client remembered.new result.0 }
+    ensures offers { (attached : Attached) → attached.number ≡ client →
+        OffersOn M.next_is M.went N.home registration most messages.old messages.new result.1
+        (with_offer attached pass now mine.old.number (is_some ended.old) audit.old)
+        (with_offer attached result.0 now mine.new.number (is_some ended.new) audit.new) }
+{
+    let mut slot = lock_soon(rt, slot);
+    let mut pass = pass;
+    for _taken in 0..most {
+        let Some(message) = messages.next() else {
+            return (pass, Ok(()));
+        };
+        let (next, told) = offer_held(
+            &mut slot,
+            pass,
+            cache,
+            remembered,
+            mine,
+            ended,
+            now,
+            client,
+            registration,
+            message,
+        );
+        pass = next;
+        let Some(told) = told else {
+            return (pass, Err(OfferFault::NoLook));
+        };
+        tell(audit, told.stamp, told.decision);
+        match position_of(&told) {
+            Ok(position) => messages.taken(position),
+            Err(fault) => return (pass, Err(fault)),
+        }
+    }
+    (pass, Ok(()))
+}
+
+/// One message, and the position after it once it was taken.
+#[derive(Drop)]
+struct One<'a> {
+    message: Option<&'a [u8]>,
+    position: u64,
+}
+
+impl<'a> Messages for One<'a> {
+    ghost next_is = { λ one. option_map (λ message. message.now) one.message };
+
+    ghost went = { λ before position after. (after.message ≡ None) × (after.position ≡ position) };
+
+    fn next(&self) -> Option<&[u8]> {
+        self.message
+    }
+
+    fn taken(&mut self, position: u64) {
+        self.message = None;
+        self.position = position;
     }
 }
 
@@ -158,15 +252,74 @@ impl<N: DriverNaming, C: Clock> Client<N, C> {
         }
     }
 
+    /// Offers messages one after another to the log of a publication of this client's, `most` at most, until one is not taken.
+    /// It is one look, if the client does not remember where that log is, and then one hold of the log's lock, in which each
+    /// message is offered as [`Client::offer`] says.
+    ///
+    /// # Errors
+    /// That of the first message that was not taken.
+    pub fn offer_many<R: Wait, M: Messages>(
+        &mut self,
+        rt: &R,
+        registration: u64,
+        messages: &mut M,
+        most: u32,
+    ) -> Result<(), OfferFault>
+        ensures { Offers M.next_is M.went N.home registration most messages.old messages.new result self.old self.new }
+    {
+        caches_stay_right_of_later_looks();
+        if most == 0 {
+            return Ok(());
+        }
+        let Some(_first) = messages.next() else {
+            return Ok(());
+        };
+        let Some(found) = self.log_of(registration) else {
+            return Err(OfferFault::NoLook);
+        };
+        let Some(log) = found else {
+            return Err(OfferFault::Closed);
+        };
+        let now = self.offer_moment(log);
+        let Some(slot) = self.slots.publications.get(log.at.slot as usize) else {
+            return Err(OfferFault::NoLook);
+        };
+        let Some(pass) = self.pass.take() else {
+            unreachable!()
+        };
+        let (pass, offered) = offer_run(
+            rt,
+            slot,
+            pass,
+            &mut self.cache,
+            &mut self.said,
+            &mut self.counted,
+            &mut self.ended,
+            &mut self.audit,
+            now,
+            self.number,
+            registration,
+            messages,
+            most,
+        );
+        self.pass = Some(pass);
+        self.moment = now;
+        if !log.is_shared {
+            // what it took is to be sent
+            self.queue.wake_sender();
+        }
+        offered
+    }
+
     /// Offers a message to the log of a publication of this client's, and gives the position after it. It is one look, if
-    /// the client does not remember where that log is, and then one hold of the log's lock with one look within it. Such a
-    /// message is counted, unless no more are counted of its slot, or for the client; no other is. What was decided is kept in
+    /// the client does not remember where that log is, and then one hold of the log's lock with one look within it. Instead of
+    /// that look what the last one decided counts, where the registry that it was at is still shown. A message that is taken
+    /// is counted, unless no more are counted of its slot, or for the client; no other is. What was decided is kept in
     /// the client's audit. It takes no memory.
     ///
     /// # Errors
     /// The first that applies, by the registry of that look: `Closed`, `Denied`, `TooLong`, `NotConnected`, `MaxPosition`,
     /// `BackPressured`, `AdminAction`; or `NoLook`, and then nothing is offered.
-    #[tactic(auto, using(crate::proofs::AuditLemmas::step_unseen))]
     pub fn offer<R: Wait>(
         &mut self,
         rt: &R,
@@ -181,38 +334,13 @@ impl<N: DriverNaming, C: Clock> Client<N, C> {
         ensures audit { ReportsOffer N.home self.new.known self.new.moment self.old.number registration message.now result self.old.audited self.new.audited }
         ensures unseen { IfErr result (λ fault. KeepsOffered fault self.old.audited self.new.audited) }
     {
-        caches_stay_right_of_later_looks();
-        let Some(found) = self.log_of(registration) else {
-            return Err(OfferFault::NoLook);
+        let mut one = One {
+            message: Some(message),
+            position: 0,
         };
-        let Some(log) = found else {
-            return Err(OfferFault::Closed);
-        };
-        let now = self.offer_moment(log);
-        let Some(slot) = self.slots.publications.get(log.at.slot as usize) else {
-            return Err(OfferFault::NoLook);
-        };
-        let Some(pass) = self.pass.take() else {
-            unreachable!()
-        };
-        let (pass, told) = offer_once(
-            rt,
-            slot,
-            pass,
-            &mut self.cache,
-            &mut self.counted,
-            &mut self.ended,
-            now,
-            self.number,
-            registration,
-            message,
-        );
-        self.pass = Some(pass);
-        let Some(told) = told else {
-            return Err(OfferFault::NoLook);
-        };
-        self.moment = now;
-        tell(&mut self.audit, told.stamp, told.decision);
-        position_of(&told)
+        match self.offer_many(rt, registration, &mut one, 1) {
+            Ok(()) => Ok(one.position),
+            Err(fault) => Err(fault),
+        }
     }
 }

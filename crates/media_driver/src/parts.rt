@@ -11,14 +11,13 @@ use crate::starting::shared;
 use command_queue::{Sender, Taker};
 use driver_core::{Event, Peer, Registry, Settings};
 use log_arena::Arena;
-use media_agents::{DriverNaming, EventSender};
+use media_agents::{Bells, DriverNaming, EventSender};
 use policy_core::Policy;
 use published_registry::{Pass, Publisher};
 use std::alloc::{AllocError, Global};
 use std::marker::Model;
 use std::sync::ledger::Blank;
 use std::sync::{Arc, Wait};
-use std::thread::Parker;
 
 /// How many clients may be out at once.
 pub(crate) const CLIENTS: u32 = 64;
@@ -44,8 +43,8 @@ pub(crate) struct Pieces {
     pub(crate) store: Store,
     pub(crate) hands: Hands,
     pub(crate) blanks: Blanks,
-    /// It is rung where an event is pushed, and wakes the conductor.
-    pub(crate) bell: Arc<Parker>,
+    /// They wake the agents that sleep.
+    pub(crate) bells: Arc<Bells>,
 }
 
 /// What the conductor alone works with.
@@ -128,10 +127,10 @@ impl Hands {
     }
 }
 
-/// Who sends events by these, each with the conductor's bell.
-fn with_bell(
+/// Who sends events by these, each with the bells of the agents.
+fn with_bells(
     alloc: Global,
-    bell: &Arc<Parker>,
+    bells: &Arc<Bells>,
     senders: Vec<Sender<Event>>,
 ) -> Result<Vec<EventSender>, AllocError>
     requires unsent { All (λ sender. sender.sent ≡ []) senders.items }
@@ -143,7 +142,7 @@ fn with_bell(
     let mut made = Vec::with_capacity(alloc, CLIENTS as usize + 2)?;
     for _given in 0..CLIENTS + 2 {
         match senders.pop() {
-            Some(sender) => made.push(EventSender::new(sender, Arc::try_clone(bell)?))?,
+            Some(sender) => made.push(EventSender::new(sender, Arc::try_clone(bells)?))?,
             None => unreachable!(),
         }
     }
@@ -179,8 +178,8 @@ impl Parts {
     {
         let registry = Registry::new(alloc, settings, policy, peers)?;
         let (store, senders) = make_store(alloc, settings)?;
-        let bell = shared(alloc, Parker::new())?;
-        let senders = with_bell(alloc, &bell, senders)?;
+        let bells = shared(alloc, Bells::new())?;
+        let senders = with_bells(alloc, &bells, senders)?;
         match published_registry::make(rt, alloc, registry, CLIENTS + 2) {
             Ok((publisher, passes)) => Ok(Parts {
                 publisher,
@@ -188,7 +187,7 @@ impl Parts {
                     settings,
                     store,
                     hands: Hands { passes, senders },
-                    bell,
+                    bells,
                     blanks: Blanks {
                         messages: Blank::new(CLIENTS as u64 + 1 + PUBLICATIONS as u64),
                         clients: Blank::new(CLIENTS as u64 + 1),
@@ -200,9 +199,9 @@ impl Parts {
         }
     }
 
-    /// What wakes the conductor, for the gate of a driver that is made of these parts.
-    pub fn bell(&self) -> Result<Arc<Parker>, AllocError> {
-        Arc::try_clone(&self.pieces.bell)
+    /// What wakes the agents, for the gate of a driver that is made of these parts.
+    pub fn bells(&self) -> Result<Arc<Bells>, AllocError> {
+        Arc::try_clone(&self.pieces.bells)
     }
 
     /// Lets the parts go without a driver, and gives the registry that was opened.

@@ -18,11 +18,12 @@ use crate::auditing::tell;
 use crate::client::Client;
 use crate::faults::PollFault;
 use crate::pacing::next_rest;
+use crate::remembering::what_was_said_stays;
 use decision_cache::Cache;
 use driver_core::View;
 use log_slots::{Held, lock_soon, rest};
 use log_steps::{Answer, Answered, FragmentCopies};
-use media_agents::{Clock, DriverNaming, LogAt, Slots, Stamp, Stepped};
+use media_agents::{Clock, CommandSender, DriverNaming, LogAt, Slots, Stamp, Stepped};
 use published_registry::{Pass, caches_stay_right_of_later_looks};
 use std::alloc::{AllocError, Global};
 use std::sync::{Mutex, Wait};
@@ -143,6 +144,18 @@ fn poll_once<N: DriverNaming, R: Wait>(
     }
 }
 
+/// Where fragments of an image were taken, its publisher may be due a report.
+fn wake(queue: &CommandSender, at: LogAt, told: &Stepped) {
+    match &told.answer {
+        Answer::Polled(fragments) => {
+            if !at.published && fragments.len() > 0 {
+                queue.wake_receiver();
+            }
+        }
+        _ => {}
+    }
+}
+
 /// What the answer of a step says.
 fn fragments_of(told: Stepped) -> Result<FragmentCopies, PollFault>
     ensures answer { IfSome (poll_answer result) (λ answer. told.answer ≡ answer) }
@@ -200,6 +213,7 @@ impl<N: DriverNaming, C: Clock> Client<N, C> {
         ensures unseen { IfErr result (λ fault. KeepsPolled fault self.old.audited self.new.audited) }
     {
         caches_stay_right_of_later_looks();
+        what_was_said_stays();
         let Some(found) = self.log_at(source) else {
             return Err(PollFault::NoLook);
         };
@@ -229,6 +243,7 @@ impl<N: DriverNaming, C: Clock> Client<N, C> {
             return Err(PollFault::NoMemory);
         };
         self.pace = next_rest(self.pace, limit, &told);
+        wake(&self.queue, at, &told);
         tell(&mut self.audit, told.stamp, told.decision);
         fragments_of(told)
     }

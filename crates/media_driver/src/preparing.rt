@@ -237,7 +237,7 @@ pub(crate) fn prepare<N: DriverNaming, R: Wait + Copy + Drop, G: Gate + Drop, W:
         store,
         mut hands,
         blanks,
-        bell: _,
+        bells: _,
     } = pieces;
     let gate = shared(alloc, gate)?;
     let wires = make_wires(alloc, rt, wire)?;

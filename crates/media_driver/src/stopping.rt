@@ -80,11 +80,11 @@ impl<N: DriverNaming, R: Threads + Wait + Drop, C: Clock + Drop> Driver<N, R, C>
         let Kept {
             common,
             mut ledger,
-            queue: _,
+            queue,
             elicitations: _,
             seats: _,
         } = kept;
-        running.end(&rt, &common.stop);
+        running.end(&rt, &common.stop, &queue);
         let here = clients.len() as u64;
         settle_clients(clients, &mut ledger);
         if here < out {

@@ -2,7 +2,7 @@
 
 use crate::faults::StartFault;
 use crate::works::{Turns, Work};
-use media_agents::Clock;
+use media_agents::{Clock, EventSender};
 use std::sync::atomic::{AtomicBool, Ordering};
 use std::sync::{Arc, Wait};
 use std::thread;
@@ -52,14 +52,16 @@ pub(crate) fn begin<
 }
 
 impl Running {
-    /// The threads end.
-    pub(crate) fn end<R: Threads>(self, rt: &R, stop: &AtomicBool) {
+    /// The threads end. The two that may sleep for long are woken.
+    pub(crate) fn end<R: Threads>(self, rt: &R, stop: &AtomicBool, queue: &EventSender) {
         let Running {
             conductor,
             sender,
             receiver,
         } = self;
         stop.store(true, Ordering::SeqCst);
+        queue.wake_sender();
+        queue.wake_receiver();
         conductor.join(rt);
         sender.join(rt);
         receiver.join(rt);

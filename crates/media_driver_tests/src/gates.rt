@@ -1,9 +1,8 @@
 // Gates of the tests.
 use crate::asking::{Outcome, TRIES};
-use media_agents::{Agent, Backoff, Gate, Turn};
+use media_agents::{Agent, Backoff, Bells, Gate, Turn};
 use std::sync::atomic::{AtomicBool, AtomicU64, Ordering};
 use std::sync::{Arc, Wait};
-use std::thread::Parker;
 use std::{thread, time};
 
 /// Counts the conductor's turns, and lets each agent pass as a driver does that runs.
@@ -14,20 +13,20 @@ pub(crate) struct Counting<C> {
 }
 
 impl<C> Counting<C> {
-    pub(crate) fn new(rt: C, bell: Arc<Parker>, turns: Arc<AtomicU64>) -> Counting<C> {
+    pub(crate) fn new(rt: C, bells: Arc<Bells>, turns: Arc<AtomicU64>) -> Counting<C> {
         Counting {
             turns,
-            inner: Backoff::new(rt, bell),
+            inner: Backoff::new(rt, bells),
         }
     }
 }
 
 impl<C: time::Clock + Wait> Gate for Counting<C> {
-    fn pass(&self, agent: Agent, turn: Turn) {
+    fn pass(&self, agent: Agent, turn: Turn, sockets: &[i32]) {
         if agent == Agent::Conductor {
             self.turns.store(turn.number, Ordering::SeqCst);
         }
-        self.inner.pass(agent, turn);
+        self.inner.pass(agent, turn, sockets);
     }
 }
 
@@ -59,7 +58,7 @@ pub(crate) struct Holding {
 }
 
 impl Gate for Holding {
-    fn pass(&self, agent: Agent, _turn: Turn) {
+    fn pass(&self, agent: Agent, _turn: Turn, _sockets: &[i32]) {
         if agent != Agent::Sender {
             return;
         }
@@ -140,19 +139,19 @@ pub(crate) struct Halting<C> {
 }
 
 impl<C> Halting<C> {
-    pub(crate) fn new(rt: C, bell: Arc<Parker>, conductor: Arc<Halt>) -> Halting<C> {
+    pub(crate) fn new(rt: C, bells: Arc<Bells>, conductor: Arc<Halt>) -> Halting<C> {
         Halting {
             conductor,
-            inner: Backoff::new(rt, bell),
+            inner: Backoff::new(rt, bells),
         }
     }
 }
 
 impl<C: time::Clock + Wait> Gate for Halting<C> {
-    fn pass(&self, agent: Agent, turn: Turn) {
+    fn pass(&self, agent: Agent, turn: Turn, sockets: &[i32]) {
         if agent == Agent::Conductor {
             self.conductor.come();
         }
-        self.inner.pass(agent, turn);
+        self.inner.pass(agent, turn, sockets);
     }
 }

@@ -54,11 +54,11 @@ pub(crate) fn started<
         parts.end(&rt);
         return Err("no memory");
     };
-    let Ok(bell) = parts.bell() else {
+    let Ok(bells) = parts.bells() else {
         parts.end(&rt);
         return Err("no memory");
     };
-    gated(rt, alloc, parts, wire, Counting::new(rt, bell, counted))
+    gated(rt, alloc, parts, wire, Counting::new(rt, bells, counted))
 }
 
 /// Stops a driver, whose logs have to have taken so many messages.

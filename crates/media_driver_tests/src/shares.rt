@@ -286,11 +286,11 @@ fn shown<R: Threads + Wait + time::Clock + Copy + Drop + Send + Sync + 'static>(
         return Err("no memory");
     };
     let parts = parts_at(&rt, alloc, 40_000)?;
-    let Ok(bell) = parts.bell() else {
+    let Ok(bells) = parts.bells() else {
         parts.end(&rt);
         return Err("no memory");
     };
-    let gate = Halting::new(rt, bell, theirs);
+    let gate = Halting::new(rt, bells, theirs);
     goes::<Brand, R>(rt, alloc, parts, gate, &conductor, case)
 }
 

@@ -73,6 +73,10 @@ fn opened<N: Net, S: Socket + Drop>(net: &N, local: &Address, call: u64) -> Opti
 }
 
 impl<S: Socket> Door<S> {
+    fn descriptor(&self) -> i32 {
+        self.socket.descriptor()
+    }
+
     // Sends a datagram, whole.
     fn send(&mut self, call: u64, to: &Address, bytes: &[u8]) -> Result<(), WireFault>
         ensures { Sends S.did S.stands call to.now bytes.now self.old self.new result }
@@ -117,6 +121,12 @@ fn place_of<S: Socket>(doors: &[Door<S>], local: &Address) -> Option<usize>
     ensures place { result ≡ position (is_at local.now) doors.now }
 {
     doors.iter().position(|door| door.local.is(local))
+}
+
+// By what it may be waited for that a datagram comes there.
+pub(crate) fn descriptor_of<S: Socket>(doors: &[Door<S>], local: &Address) -> Option<i32> {
+    let place = place_of(doors, local)?;
+    Some(doors[place].descriptor())
 }
 
 // Which was not used for the longest, the first of several.

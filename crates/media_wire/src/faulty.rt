@@ -109,6 +109,10 @@ impl<W: Wire> Wire for Faulty<W> {
         self.wire.turn_ended();
     }
 
+    fn descriptor(&self, local: &Address) -> Option<i32> {
+        self.wire.descriptor(local)
+    }
+
     fn failures(&self) -> u64 {
         self.failures
     }

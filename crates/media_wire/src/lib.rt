@@ -7,6 +7,7 @@
 //! in one hold of a lock.
 #![tactic(auto)]
 
+mod bell;
 mod doors;
 mod faulty;
 mod laws;
@@ -17,6 +18,7 @@ mod socket;
 mod udp;
 mod wire;
 
+pub use bell::Bell;
 pub use faulty::Faulty;
 pub use laws::{failures_lead_nowhere, letters_arrive_in_order, letters_were_sent};
 pub use letter::Letter;

@@ -185,6 +185,10 @@ impl<W: Wire + Drop, R: Wait + Copy> Wire for Shared<W, R> {
         self.common.lock(&self.rt).turn_ended(self.place);
     }
 
+    fn descriptor(&self, local: &Address) -> Option<i32> {
+        self.common.lock(&self.rt).wire.descriptor(local)
+    }
+
     fn failures(&self) -> u64 {
         self.failures
     }

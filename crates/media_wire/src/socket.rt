@@ -30,6 +30,9 @@ pub trait Socket {
     fn never_wait(&self) -> io::Result<()>
         ensures { did (unwaits self.now result) };
 
+    /// By what it may be waited for that a datagram comes.
+    fn descriptor(&self) -> i32;
+
     /// Sends a datagram. How many of its bytes were sent.
     fn hand(&mut self, bytes: &[u8], to: SocketAddrV4) -> io::Result<usize>
         ensures did { did (sends self.old bytes.now to result self.new) }
@@ -63,6 +66,10 @@ impl Socket for UdpSocket {
 
     fn never_wait(&self) -> io::Result<()> {
         self.set_nonblocking(true)
+    }
+
+    fn descriptor(&self) -> i32 {
+        self.as_raw_fd()
     }
 
     fn hand(&mut self, bytes: &[u8], to: SocketAddrV4) -> io::Result<usize> {

@@ -4,7 +4,7 @@ ghost use Rattle.media_wire.specs.Letters.{letter};
 ghost use Rattle.media_wire.specs.Sockets.{called_once, counted_once, new_sockets, turned};
 ghost use Rattle.std.specs.Prelude.{◌≡◌, ◌≤◌, ◌++◌, ◌∷◌, [], List, IfOk, IfSome, IsErr, is_ok, length};
 
-use crate::doors::{Door, close_unused, recv_at, send_from};
+use crate::doors::{Door, close_unused, descriptor_of, recv_at, send_from};
 use crate::socket::Socket;
 use crate::wire::{Wire, WireFault};
 use channel_uri::Address;
@@ -107,6 +107,10 @@ impl<N: Net + Drop, S: Socket + Drop> Wire for Udp<N, S> {
     {
         close_unused(&mut self.doors, self.turn);
         self.turn = self.calls;
+    }
+
+    fn descriptor(&self, local: &Address) -> Option<i32> {
+        descriptor_of(&self.doors, local)
     }
 
     fn failures(&self) -> u64 {

@@ -42,6 +42,12 @@ pub trait Wire {
         ensures { (events : List Event) → went self.old events → went self.new events }
     {}
 
+    /// By what it may be waited for that a datagram comes to an address: the descriptor of the socket there. `None` where none is
+    /// open, and for a wire without sockets.
+    fn descriptor(&self, local: &Address) -> Option<i32> {
+        None
+    }
+
     /// How many calls failed so far, or the greatest `u64` where there are more.
     fn failures(&self) -> u64
         ensures { (events : List Event) → went self.now events → result ≡ counted events };

@@ -13,6 +13,8 @@ mod room;
 mod sharing;
 #[cfg(test)]
 mod sockets;
+#[cfg(test)]
+mod waiting;
 
 pub use draining::drain;
 pub use room::Room;

@@ -105,6 +105,11 @@ impl Input {
         self.bytes.get(self.at..).unwrap_or(&[])
     }
 
+    /// What is read and not done with, how it is cut into messages, and whether the input has ended.
+    pub fn uncut(&self) -> (&[u8], Cut, bool) {
+        (self.left(), self.by, self.ended)
+    }
+
     /// The first message that is not done with, and how many bytes stand after it.
     pub fn message(&self) -> Option<(&[u8], usize)> {
         let (message, rest) = first_message(self.left(), self.by, self.ended)?;

@@ -11,7 +11,8 @@ use crate::shown::Step;
 use driver_core::{Entry, Registry};
 use std::alloc::AllocError;
 use std::marker::Model;
-use std::sync::Wait;
+use std::sync::atomic::{AtomicU64, Ordering};
+use std::sync::{Arc, Wait};
 
 // A registry that is shown: the two copies for the readers, one of the publisher's own, and the history that led to them.
 pub(crate) struct Copies {
@@ -19,6 +20,8 @@ pub(crate) struct Copies {
     pub(crate) newest: Registry,
     pub(crate) front: Front,
     pub(crate) head: Head,
+    // The number of the registry that readers are shown.
+    pub(crate) shown: Arc<AtomicU64>,
 }
 
 impl Model for Copies {
@@ -40,6 +43,7 @@ pub(crate) struct Pending {
     newest: Registry,
     front: Front,
     head: Head,
+    shown: Arc<AtomicU64>,
     entry: Entry,
 }
 
@@ -116,9 +120,11 @@ impl Pending {
             newest,
             front,
             head,
+            shown,
             entry,
         } = self;
         let board = show(rt, board, Step::Takes(entry, front.again()));
+        shown.store(front.count(), Ordering::SeqCst);
         let receipt = Receipt {
             front: front.again(),
         };
@@ -127,6 +133,7 @@ impl Pending {
             newest,
             front,
             head,
+            shown,
         };
         (copies, receipt)
     }
@@ -173,6 +180,7 @@ impl Copies {
             mut newest,
             front: _,
             head,
+            shown,
         } = self;
         newest.apply(&entry);
         Ok(Pending {
@@ -180,6 +188,7 @@ impl Copies {
             newest,
             front,
             head,
+            shown,
             entry,
         })
     }
@@ -214,6 +223,7 @@ impl Copies {
             newest,
             front: _,
             head: _,
+            shown: _,
         } = self;
         drop(board.take(rt));
         newest

@@ -13,12 +13,15 @@ use driver_core::{Registry, View};
 use policy_core::{Request, Verdict};
 use std::alloc::{AllocError, Global};
 use std::marker::Model;
+use std::sync::Arc;
+use std::sync::atomic::AtomicU64;
 use stream_registry::Pair;
 
 /// A look at one registry. It stays the same until the look ends, whatever is committed meanwhile. A look can't be let go:
 /// [`Look::leave`] ends it and gives its pass back.
 pub struct Look {
     pub(crate) reading: Glance,
+    pub(crate) shown: Arc<AtomicU64>,
 }
 
 impl Model for Look {
@@ -99,11 +102,12 @@ impl Look {
     pub fn leave(self) -> Pass
         ensures { result ≡ self }
     {
-        let Look { reading } = self;
+        let Look { reading, shown } = self;
         let front = reading.get().front.again();
         Pass {
             reader: reading.leave(),
             front,
+            shown,
         }
     }
 }

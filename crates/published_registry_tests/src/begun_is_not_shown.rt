@@ -6,21 +6,26 @@ use std::sync::Wait;
 use std::test::Fail;
 
 // A commit in two calls: what a reader sees between them, the number and the policy's number that the publisher has then,
-// the number of the receipt, and what a reader sees afterwards.
+// the number of the receipt, and what a reader sees afterwards; and whether what it looked at last is the newest that is shown:
+// between the calls, after them, and after a look.
 #[derive(Clone, Copy, Debug, PartialEq, Eq)]
 struct Halves {
     between: Option<Sight>,
     begun: (u64, u64),
     receipt: u64,
     shown: Option<Sight>,
+    newest: (bool, bool, bool),
 }
 
 // The second half, with a look before and one after it.
 fn second_half<R: Wait>(rt: &R, begun: Begun, pass: Pass) -> Halves {
     let (pass, between) = one_look(pass);
     let at = (begun.number(), begun.newest().epoch());
+    let before = pass.is_at_newest();
     let (publisher, receipt) = begun.show(rt);
+    let after = pass.is_at_newest();
     let (pass, shown) = one_look(pass);
+    let newest = (before, after, pass.is_at_newest());
     drop(pass);
     drop(publisher.end(rt));
     Halves {
@@ -28,6 +33,7 @@ fn second_half<R: Wait>(rt: &R, begun: Begun, pass: Pass) -> Halves {
         begun: at,
         receipt: receipt.number(),
         shown,
+        newest,
     }
 }
 
@@ -73,6 +79,7 @@ fn begun_is_not_shown(rt: HostRuntime) -> Result<(), Fail> {
             epoch: 2,
             allows: false,
         }),
+        newest: (true, false, true),
     };
     assert_eq!(rt; halves, Some(wanted));
     Ok(())

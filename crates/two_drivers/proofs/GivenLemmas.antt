@@ -133,7 +133,7 @@ offers_mirror i line now timeout verdict message log (whole w) mirrors =
 offers_mirror i line now timeout verdict message log (rebuilt r) mirrors = mirrors
 
 offer_under_mirror : (i : Ident) (line : List Kept) (s : State) (now : ℕ) (message : List ℕ) (log : WholeLog)
-    (o : Option LogRequest) → MirrorsLog i line log → MirrorsLog i line (offer_under s now message log o).after
+    (o : Option LogRequest) → MirrorsLog i line log → MirrorsLog i line (offer_under s.settings.connection_timeout o now message log).after
 offer_under_mirror i line s now message log None mirrors = mirrors
 offer_under_mirror i line s now message log (Some request) mirrors =
     cond_both (not (request.source == log.source)) _ _ (λ (move : Move). MirrorsLog i line move.after) (λ _. mirrors)

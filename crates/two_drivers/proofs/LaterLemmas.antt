@@ -116,7 +116,7 @@ offer_grows now timeout verdict message log (whole w) is =
 offer_grows now timeout verdict message log (rebuilt r) is = not_grown log
 
 offer_under_grows : (s : State) (now : ℕ) (message : List ℕ) (log : WholeLog) (o : Option LogRequest) →
-    IsGrown log (offer_under s now message log o).after
+    IsGrown log (offer_under s.settings.connection_timeout o now message log).after
 offer_under_grows s now message log None = not_grown log
 offer_under_grows s now message log (Some request) =
     cond_both (not (request.source == log.source)) _ _ (λ (move : Move). IsGrown log move.after)

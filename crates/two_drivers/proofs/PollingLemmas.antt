@@ -157,7 +157,7 @@ offer_put source subscription now timeout verdict message log (whole w) is =
 offer_put source subscription now timeout verdict message log (rebuilt r) is = itself source subscription log
 
 offer_under_put : (source subscription : ℕ) (s : State) (now : ℕ) (message : List ℕ) (log : WholeLog) (o : Option LogRequest) →
-    IsPut source subscription log (offer_under s now message log o).after
+    IsPut source subscription log (offer_under s.settings.connection_timeout o now message log).after
 offer_under_put source subscription s now message log None = itself source subscription log
 offer_under_put source subscription s now message log (Some request) =
     cond_both (not (request.source == log.source)) _ _ (λ (move : Move). IsPut source subscription log move.after)

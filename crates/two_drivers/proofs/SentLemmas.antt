@@ -151,7 +151,7 @@ offers_well now timeout verdict message log (whole w) is well =
 offers_well now timeout verdict message log (rebuilt r) is well = well
 
 offer_under_well : (s : State) (now : ℕ) (message : List ℕ) (log : WholeLog) (o : Option LogRequest) → WellLog log →
-    WellLog (offer_under s now message log o).after
+    WellLog (offer_under s.settings.connection_timeout o now message log).after
 offer_under_well s now message log None well = well
 offer_under_well s now message log (Some request) well =
     cond_both (not (request.source == log.source)) _ _ (λ (move : Move). WellLog move.after) (λ _. well)
@@ -516,7 +516,7 @@ offer_answer i all now timeout verdict message log (whole w) =
 offer_answer i all now timeout verdict message log (rebuilt r) = none_sent i all
 
 offer_under_sent : (i : Ident) (all : List Frame) (s : State) (now : ℕ) (message : List ℕ) (log : WholeLog) (o : Option LogRequest) →
-    AllGood i all (sent_by (offer_under s now message log o).answer)
+    AllGood i all (sent_by (offer_under s.settings.connection_timeout o now message log).answer)
 offer_under_sent i all s now message log None = none_sent i all
 offer_under_sent i all s now message log (Some request) =
     cond_both (not (request.source == log.source)) _ _ (λ (move : Move). AllGood i all (sent_by move.answer)) (λ _. none_sent i all)

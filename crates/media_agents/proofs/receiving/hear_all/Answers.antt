@@ -23,7 +23,7 @@ loop-count-preserved g c =
     let went = g.W.Wire.went in
     record {
       known = continues c.loop-count.invariant.known c.hear_as_receiver-pass.ensures.known;
-      hears = came_more (ReceiverTakes c.args.now) local c.loop-count.count (letter c.in-Some.read.1 local (take c.in-Some.read.0 c.next.new.self.bytes.items))
+      hears = came_more (ReceiverTakes c.args.now) local c.loop-count._count (letter c.in-Some.read.1 local (take c.in-Some.read.0 c.next.new.self.bytes.items))
           (c.args.pass, c.args.set_ups.now) (c.loop-count.pass, c.loop-count.set_ups) (c.hear_as_receiver-pass.result, c.hear_as_receiver-pass.new.set_ups)
           (Trail (did c.args.steps.now) (went c.args.wire.now)) (Trail (did c.loop-count.steps) (went c.loop-count.wire)) (Trail (did c.hear_as_receiver-pass.new.steps) (went c.next.new.wire)) refl
           c.loop-count.invariant.hears
@@ -40,7 +40,7 @@ returns-in-None g c =
     let went = g.W.Wire.went in
     record {
       known = c.loop-count.invariant.known;
-      hears = hears_out (ReceiverTakes c.args.now) c.args.local.now c.loop-count.count (c.args.pass, c.args.set_ups.now) (c.loop-count.pass, c.loop-count.set_ups) c.next.new.self.bytes.items
+      hears = hears_out (ReceiverTakes c.args.now) c.args.local.now c.loop-count._count (c.args.pass, c.args.set_ups.now) (c.loop-count.pass, c.loop-count.set_ups) c.next.new.self.bytes.items
           (Trail (did c.args.steps.now) (went c.args.wire.now)) (Trail (did c.loop-count.steps) (went c.loop-count.wire)) (Trail (did c.next.new.steps) (went c.next.new.wire)) (omega (arith, c.loop-count-test.true)) c.loop-count.invariant.hears c.in-None.ensures.wire;
       set_ups = c.loop-count.invariant.set_ups;
     }
@@ -51,7 +51,7 @@ returns g c =
     let went = g.W.Wire.went in
     record {
       known = c.loop-count.invariant.known;
-      hears = hears_most (ReceiverTakes c.args.now) c.args.local.now c.loop-count.count (c.args.pass, c.args.set_ups.now) (c.loop-count.pass, c.loop-count.set_ups)
+      hears = hears_most (ReceiverTakes c.args.now) c.args.local.now c.loop-count._count (c.args.pass, c.args.set_ups.now) (c.loop-count.pass, c.loop-count.set_ups)
           (Trail (did c.args.steps.now) (went c.args.wire.now)) (Trail (did c.loop-count.steps) (went c.loop-count.wire)) (omega arith) c.loop-count.invariant.hears;
       set_ups = c.loop-count.invariant.set_ups;
     }

@@ -8,6 +8,6 @@ use Rattle.media_agents.proofs.receiving.hear_all.Given as goal
 abbrev pub invariant-loop-count : goal.invariant-loop-count
 invariant-loop-count g l = record {
   known : IsContinuedBy l.fn.pass l.pass;
-  hears : GoesOn (Came (ReceiverTakes l.now) l.local l.count (l.fn.pass, l.fn.set_ups) (l.pass, l.set_ups)) (Trail (g.S.Stepping.did l.fn.steps) (g.W.Wire.went l.fn.wire)) (Trail (g.S.Stepping.did l.steps) (g.W.Wire.went l.wire));
+  hears : GoesOn (Came (ReceiverTakes l.now) l.local l._count (l.fn.pass, l.fn.set_ups) (l.pass, l.set_ups)) (Trail (g.S.Stepping.did l.fn.steps) (g.W.Wire.went l.fn.wire)) (Trail (g.S.Stepping.did l.steps) (g.W.Wire.went l.wire));
   set_ups : SetsUp l.now l.fn.set_ups l.set_ups;
 }

@@ -22,7 +22,7 @@ loop-count-preserved g c =
     let went = g.W.Wire.went in
     record {
       known = continues c.loop-count.invariant.known c.hear_as_sender-pass.ensures.known;
-      hears = came_more (SenderTakes c.args.now local) at c.loop-count.count (letter c.in-Some.read.1 at (take c.in-Some.read.0 c.next.new.self.bytes.items))
+      hears = came_more (SenderTakes c.args.now local) at c.loop-count._count (letter c.in-Some.read.1 at (take c.in-Some.read.0 c.next.new.self.bytes.items))
           c.args.pass c.loop-count.pass c.hear_as_sender-pass.result (Trail (did c.args.steps.now) (went c.args.wire.now)) (Trail (did c.loop-count.steps) (went c.loop-count.wire)) (Trail (did c.hear_as_sender-pass.new.steps) (went c.hear_as_sender-pass.new.wire)) refl
           c.loop-count.invariant.hears
           (sender_takes c.args.now local at c.in-Some.read c.next.new.self.bytes.items c.datagram-bytes.result.now
@@ -37,7 +37,7 @@ returns-in-None g c =
     let went = g.W.Wire.went in
     record {
       known = c.loop-count.invariant.known;
-      hears = hears_out (SenderTakes c.args.now c.args.local.now) at c.loop-count.count c.args.pass c.loop-count.pass c.next.new.self.bytes.items
+      hears = hears_out (SenderTakes c.args.now c.args.local.now) at c.loop-count._count c.args.pass c.loop-count.pass c.next.new.self.bytes.items
           (Trail (did c.args.steps.now) (went c.args.wire.now)) (Trail (did c.loop-count.steps) (went c.loop-count.wire)) (Trail (did c.next.new.steps) (went c.next.new.wire)) (omega (arith, c.loop-count-test.true)) c.loop-count.invariant.hears c.in-None.ensures.wire;
     }
 
@@ -48,6 +48,6 @@ returns g c =
     let went = g.W.Wire.went in
     record {
       known = c.loop-count.invariant.known;
-      hears = hears_most (SenderTakes c.args.now c.args.local.now) at c.loop-count.count c.args.pass c.loop-count.pass
+      hears = hears_most (SenderTakes c.args.now c.args.local.now) at c.loop-count._count c.args.pass c.loop-count.pass
           (Trail (did c.args.steps.now) (went c.args.wire.now)) (Trail (did c.loop-count.steps) (went c.loop-count.wire)) (omega arith) c.loop-count.invariant.hears;
     }

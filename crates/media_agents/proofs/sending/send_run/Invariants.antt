@@ -6,5 +6,5 @@ use Rattle.media_agents.proofs.sending.send_run.Given as goal
 abbrev pub invariant-loop-count : goal.invariant-loop-count
 invariant-loop-count g l = record {
   known : IsContinuedBy l.fn.pass l.pass;
-  sends : GoesOn (Ran l.now l.local l.at l.count l.fn.pass l.pass) (Trail (g.S.Stepping.did l.fn.steps) (g.W.Wire.went l.fn.wire)) (Trail (g.S.Stepping.did l.steps) (g.W.Wire.went l.wire));
+  sends : GoesOn (Ran l.now l.local l.at l._count l.fn.pass l.pass) (Trail (g.S.Stepping.did l.fn.steps) (g.W.Wire.went l.fn.wire)) (Trail (g.S.Stepping.did l.steps) (g.W.Wire.went l.wire));
 }

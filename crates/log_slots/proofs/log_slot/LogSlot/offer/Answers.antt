@@ -9,5 +9,5 @@ returns-clause-messages g c =
     let held : HeldLog = c.in-Some.log in
     let here : c.args.self.now.log ≡ Some held = search rules in
     let was = ap messages_in here in
-    let takes = held_takes (g.V.View.shows c.args.view.now) c.args.now c.args.client c.args.registration c.args.message.now held c.offer_step.new.log c.offer_step.result.answer c.offer_step.ensures.does c.has_whole.ensures.whole in
+    let takes = held_takes c.args.timeout c.args.request.now c.args.now c.args.message.now held c.offer_step.new.log c.offer_step.result.answer c.offer_step.ensures.does c.has_whole.ensures.whole in
     omega (arith, was, takes)

@@ -4,12 +4,12 @@ use Rattle.media_driver.proofs.client.Client.image_positions.Goals as goal
 
 pub invariant_of-self-in_default-found-2 : goal.invariant_of-self-in_default-found-2
 invariant_of-self-in_default-found-2 g c =
-    let kept = looked c.caches_stay_right_of_later_looks.ensures c.self.inside.pass c.take.result c.in-Some.pass c.find_reading-pass.result.0 g.N.DriverNaming.book c.self.inside.cache
-    c.take.ensures.value c.in-Some.is c.find_reading-pass.ensures.known c.self.invariant.1 c.self.invariant.2 in
-    (refl, kept.0, kept.1, c.self.invariant.3, c.self.invariant.4)
+    let kept = looked c.caches_stay_right_of_later_looks.ensures c.self.inside.pass c.take.result c.in-Some.pass c.find_reading-pass.result.0 g.N.DriverNaming.book c.self.inside.cache c.self.inside.number c.self.inside.said
+    c.take.ensures.value c.in-Some.is c.find_reading-pass.ensures.known c.self.invariant.1 c.self.invariant.2 c.self.invariant.5 in
+    (refl, kept.0, kept.1, c.self.invariant.3, c.self.invariant.4, kept.2)
 
 pub invariant_of-self-2 : goal.invariant_of-self-2
 invariant_of-self-2 g c =
-    let kept = looked c.caches_stay_right_of_later_looks.ensures c.self.inside.pass c.take.result c.in-Some.pass c.find_reading-pass.result.0 g.N.DriverNaming.book c.self.inside.cache
-    c.take.ensures.value c.in-Some.is c.find_reading-pass.ensures.known c.self.invariant.1 c.self.invariant.2 in
-    (refl, kept.0, kept.1, c.self.invariant.3, c.self.invariant.4)
+    let kept = looked c.caches_stay_right_of_later_looks.ensures c.self.inside.pass c.take.result c.in-Some.pass c.find_reading-pass.result.0 g.N.DriverNaming.book c.self.inside.cache c.self.inside.number c.self.inside.said
+    c.take.ensures.value c.in-Some.is c.find_reading-pass.ensures.known c.self.invariant.1 c.self.invariant.2 c.self.invariant.5 in
+    (refl, kept.0, kept.1, c.self.invariant.3, c.self.invariant.4, kept.2)

@@ -4,6 +4,6 @@ use Rattle.media_driver.proofs.client.Client.learn.Goals as goal
 
 pub invariant_of-self : goal.invariant_of-self
 invariant_of-self g c =
-    let kept = looked c.caches_stay_right_of_later_looks.ensures c.self.inside.pass c.self.inside.pass c.in-Some.pass c.learn.new.self g.N.DriverNaming.book c.self.inside.cache
-    refl c.in-Some.is c.learn.ensures.kept c.self.invariant.1 c.self.invariant.2 in
-    (refl, kept.0, kept.1, c.self.invariant.3, c.self.invariant.4)
+    let kept = looked c.caches_stay_right_of_later_looks.ensures c.self.inside.pass c.self.inside.pass c.in-Some.pass c.learn.new.self g.N.DriverNaming.book c.self.inside.cache c.self.inside.number c.self.inside.said
+    refl c.in-Some.is c.learn.ensures.kept c.self.invariant.1 c.self.invariant.2 c.self.invariant.5 in
+    (refl, kept.0, kept.1, c.self.invariant.3, c.self.invariant.4, kept.2)

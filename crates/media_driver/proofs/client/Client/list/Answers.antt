@@ -4,12 +4,12 @@ use Rattle.media_driver.proofs.client.Client.list.Goals as goal
 
 pub invariant_of-self : goal.invariant_of-self
 invariant_of-self g c =
-    let kept = looked c.caches_stay_right_of_later_looks.ensures c.self.inside.pass c.take.result c.in-Some.pass c.listed-pass.result.0 g.N.DriverNaming.book c.self.inside.cache
-    c.take.ensures.value c.in-Some.is c.listed-pass.ensures.known c.self.invariant.1 c.self.invariant.2 in
-    (refl, kept.0, kept.1, c.self.invariant.3, c.self.invariant.4)
+    let kept = looked c.caches_stay_right_of_later_looks.ensures c.self.inside.pass c.take.result c.in-Some.pass c.listed-pass.result.0 g.N.DriverNaming.book c.self.inside.cache c.self.inside.number c.self.inside.said
+    c.take.ensures.value c.in-Some.is c.listed-pass.ensures.known c.self.invariant.1 c.self.invariant.2 c.self.invariant.5 in
+    (refl, kept.0, kept.1, c.self.invariant.3, c.self.invariant.4, kept.2)
 
 pub invariant_of-self-in-Some-Err : goal.invariant_of-self-in-Some-Err
 invariant_of-self-in-Some-Err g c =
-    let kept = looked c.caches_stay_right_of_later_looks.ensures c.self.inside.pass c.take.result c.in-Some.pass c.listed-pass.result.0 g.N.DriverNaming.book c.self.inside.cache
-    c.take.ensures.value c.in-Some.is c.listed-pass.ensures.known c.self.invariant.1 c.self.invariant.2 in
-    (refl, kept.0, kept.1, c.self.invariant.3, c.self.invariant.4)
+    let kept = looked c.caches_stay_right_of_later_looks.ensures c.self.inside.pass c.take.result c.in-Some.pass c.listed-pass.result.0 g.N.DriverNaming.book c.self.inside.cache c.self.inside.number c.self.inside.said
+    c.take.ensures.value c.in-Some.is c.listed-pass.ensures.known c.self.invariant.1 c.self.invariant.2 c.self.invariant.5 in
+    (refl, kept.0, kept.1, c.self.invariant.3, c.self.invariant.4, kept.2)

@@ -1,7 +1,7 @@
 use Rattle.std.proofs.Common.{◌≡◌, ◌+◌, [], All, length}
 use Rattle.command_queue.specs.Sent.{Sent}
 use Rattle.driver_core.specs.declared.state.event.Event.{Event}
-use Rattle.media_driver.proofs.parts.with_bell.Given as goal
+use Rattle.media_driver.proofs.parts.with_bells.Given as goal
 
 abbrev pub invariant-loop-given : goal.invariant-loop-given
 invariant-loop-given l =
