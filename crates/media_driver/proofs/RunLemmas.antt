@@ -5,22 +5,28 @@ use Rattle.audit_ring.specs.Audit.{KeptOf}
 use Rattle.log_slots.specs.Counting.{taken_by}
 use Rattle.log_steps.specs.declared.answer.Answer.TheVariants.{Offered as OfferedAs}
 use Rattle.log_steps.specs.declared.answer.Offered.TheVariants.{Closed as IsClosed}
-use Rattle.log_steps.specs.Decided.{offer_decision}
-use Rattle.log_steps.specs.Moves.{offer_move}
+use Rattle.log_slots.specs.Slots.{DecidesIn, Moves, SlotLog}
+use Rattle.log_steps.specs.declared.answered.Answered.{Answered}
+use Rattle.log_steps.specs.Decided.{offer_decision, offer_decision_by}
+use Rattle.log_steps.specs.Held.{HeldLog}
+use Rattle.log_steps.specs.Moves.{Move, WholeLog, offer_move, offer_under}
 use Rattle.log_arena.specs.Homes.{Home}
 use Rattle.media_agents.proofs.LookLemmas.{continues, stays_known}
 use Rattle.media_agents.specs.Journals.{audited_if, stamp_of}
 use Rattle.media_agents.specs.declared.journal.Dated.{Dated}
 use Rattle.media_agents.specs.declared.journal.Stamp.{Stamp}
-use Rattle.media_agents.specs.declared.stepping.Stepped.{Stepped}
 use Rattle.media_driver.proofs.AuditLemmas.{step_told}
 use Rattle.media_driver.proofs.OfferLemmas.{counted, to_some}
-use Rattle.media_driver.specs.Audits.{IsDecided, KeepsOffered, ReportsOffer}
+use Rattle.media_driver.proofs.RememberLemmas.{decides_so, moves_so}
+use Rattle.media_driver.specs.Audits.{KeepsOffered, ReportsOffer}
 use Rattle.media_driver.specs.Clients.{Attached, Looks}
+use Rattle.media_driver.specs.Remembering.{IsSaid}
 use Rattle.media_driver.specs.Runs.{Ends, IsOffered, Offers, OffersNone, OffersOn, Taken, with_offer}
-use Rattle.media_driver.specs.Steps.{Counts, IsOffer, IsStep, offer_answer}
+use Rattle.media_driver.specs.Steps.{Counts, IsLocked, IsOffer, IsStep, offer_answer}
 use Rattle.media_driver.specs.declared.faults.OfferFault.{OfferFault}
 use Rattle.media_driver.specs.declared.faults.OfferFault.TheVariants.{Closed, NoLook}
+use Rattle.media_driver.specs.declared.remembering.Said.{Said}
+use Rattle.policy_core.specs.declared.decision.Decision.{Decision}
 use Rattle.published_registry.specs.Histories.{History, IsContinuedBy, registry_of}
 
 -- a client that knows no more, and at no later moment
@@ -49,20 +55,26 @@ offered_later home registration message result old begun new none offered =
       unseen = it.unseen;
     }
 
--- one step on the log, of which the answer says that
+-- one step on the log that a lock guards, by what the registry says, of which the answer says that
 pub held_offered : (home : Home) (client registration now : ℕ) (message : List ℕ) (attached : Attached) (pass look : History) (before after : ℕ) (ended end : Bool)
-    (audit : KeptOf Dated) (told : Stepped) (result : Result ℕ OfferFault) → attached.number ≡ client → IsContinuedBy pass look →
+    (audit : KeptOf Dated) (said : Said) (slot : SlotLog) (log : Option HeldLog) (told : Answered) (result : Result ℕ OfferFault) → attached.number ≡ client →
+    IsContinuedBy pass look → IsSaid client said look → said.registration ≡ registration → IsLocked home slot →
+    Moves (offer_under said.timeout said.request now message) (OfferedAs IsClosed) slot.log log told.answer → DecidesIn (offer_decision_by said.request) slot.log told.decision →
+    (after ≡ before + taken_by told.answer) ⊎ ((after ≡ before) × (end ≡ true)) →
     IfSome (offer_answer result) (λ answer. told.answer ≡ answer) → IfErr result (λ _. taken_by told.answer ≡ 0) →
-    IfErr result (λ fault. KeepsOffered fault audit (audited_if told.stamp told.decision audit)) →
-    (after ≡ before + taken_by told.answer) ⊎ ((after ≡ before) × (end ≡ true)) → told.stamp ≡ stamp_of look →
-    IsStep home (offer_move (registry_of look) now client registration message) (OfferedAs IsClosed) told.answer →
-    IsDecided home (offer_move (registry_of look) now client registration message) (offer_decision (registry_of look) client registration) (OfferedAs IsClosed) told.answer told.decision →
+    IfErr result (λ fault. KeepsOffered fault audit (audited_if said.stamp told.decision audit)) →
     IsOffered home registration message result (with_offer attached pass now before ended audit)
-    (with_offer attached look now after end (audited_if told.stamp told.decision audit))
-held_offered home client registration now message attached pass look before after ended end audit told result same later answers none seen counts stamped step decided =
-    let kept : KeptOf Dated = audited_if told.stamp told.decision audit in
+    (with_offer attached look now after end (audited_if said.stamp told.decision audit))
+held_offered home client registration now message attached pass look before after ended end audit said slot log told result same later is by locked moves decides counts answers none seen =
+    let kept : KeptOf Dated = audited_if said.stamp told.decision audit in
     let old : Attached = with_offer attached pass now before ended audit in
     let new : Attached = with_offer attached look now after end kept in
+    let move : WholeLog → Move = offer_move (registry_of look) now client registration message in
+    let decide : WholeLog → Option Decision = offer_decision (registry_of look) client registration in
+    let moved : Moves move (OfferedAs IsClosed) slot.log log told.answer =
+    subst (λ (m : WholeLog → Move). Moves m (OfferedAs IsClosed) slot.log log told.answer) (moves_so client registration now message said look is by) moves in
+    let decided : DecidesIn decide slot.log told.decision =
+    subst (λ (d : WholeLog → Option Decision). DecidesIn d slot.log told.decision) (decides_so client registration said look is by) decides in
     record {
       known = later;
       moment = omega arith;
@@ -70,23 +82,23 @@ held_offered home client registration now message attached pass look before afte
       counted = counted result told.answer old new answers none counts;
       step =
           subst (λ (n : ℕ). IsOffer home (registry_of look) now n registration message result) (sym same)
-          (to_some (IsStep home (offer_move (registry_of look) now client registration message) (OfferedAs IsClosed)) (offer_answer result) told.answer answers step);
+          (to_some (IsStep home move (OfferedAs IsClosed)) (offer_answer result) told.answer answers (record { slot = slot; locked = locked; new = log; moves = moved }));
       audit =
           subst (λ (n : ℕ). ReportsOffer home look now n registration message result audit kept) (sym same)
-          (step_told home (offer_move (registry_of look) now client registration message) (offer_decision (registry_of look) client registration) (OfferedAs IsClosed) (offer_answer result)
-          told.answer told.decision (stamp_of look) audit kept answers decided (ap (λ (stamp : Stamp). audited_if stamp told.decision audit) stamped));
+          (step_told home move decide (OfferedAs IsClosed) (offer_answer result) told.answer told.decision (stamp_of look) audit kept answers
+          (record { slot = slot; locked = locked; new = log; moves = moved; decides = decided }) (ap (λ (stamp : Stamp). audited_if stamp told.decision audit) is.stamp_is));
       unseen = seen;
     }
 
 -- there was no look
-pub unseen_offered : (home : Home) (registration now : ℕ) (message : List ℕ) (attached : Attached) (pass look : History) (before after : ℕ) (ended end : Bool)
-    (audit : KeptOf Dated) → IsContinuedBy pass look → after ≡ before →
-    IsOffered home registration message (Err NoLook) (with_offer attached pass now before ended audit) (with_offer attached look now after end audit)
-unseen_offered home registration now message attached pass look before after ended end audit later same = record {
+pub unseen_offered : (home : Home) (registration now : ℕ) (message : List ℕ) (attached : Attached) (pass look : History) (count : ℕ) (ended : Bool)
+    (audit : KeptOf Dated) → IsContinuedBy pass look →
+    IsOffered home registration message (Err NoLook) (with_offer attached pass now count ended audit) (with_offer attached look now count ended audit)
+unseen_offered home registration now message attached pass look count ended audit later = record {
   known = later;
   moment = omega arith;
   new_is = refl;
-  counted = same;
+  counted = refl;
   step = tt;
   audit = record { decision = None; decided = inl refl; kept = refl };
   unseen = refl;

@@ -2,22 +2,16 @@
 
 ghost use Rattle.audit_ring.specs.Audit.{KeptOf};
 ghost use Rattle.driver_core.specs.Cached.{AreCached};
-ghost use Rattle.log_steps.specs.declared.answer.Answer.TheVariants.{Offered as OfferedAs};
-ghost use Rattle.log_steps.specs.declared.answer.Offered.TheVariants.{Closed};
-ghost use Rattle.log_steps.specs.Decided.{offer_decision};
-ghost use Rattle.log_steps.specs.Moves.{offer_move};
 ghost use Rattle.log_slots.specs.Counting.{taken_by};
 ghost use Rattle.media_agents.specs.declared.journal.Dated.{Dated};
-ghost use Rattle.media_agents.specs.Journals.{stamp_of};
-ghost use Rattle.media_driver.specs.Audits.{IsDecided, KeepsOffered, ReportsOffer};
-ghost use Rattle.media_driver.specs.Clients.{Looks};
+ghost use Rattle.media_driver.specs.Audits.{KeepsOffered, ReportsOffer};
+ghost use Rattle.media_driver.specs.Clients.{Attached, Looks};
 ghost use Rattle.media_driver.specs.Remembering.{IsRemembered};
-ghost use Rattle.media_driver.specs.Runs.{Offers, OffersOn, with_offer};
-ghost use Rattle.media_driver.specs.Steps.{Counts, IsOffer, IsStep, offer_answer};
+ghost use Rattle.media_driver.specs.Runs.{IsOffered, Offers, OffersOn, with_offer};
+ghost use Rattle.media_driver.specs.Steps.{Counts, IsOffer, offer_answer};
 ghost use Rattle.published_registry.specs.Histories.{IsContinuedBy, registry_of};
-ghost use Rattle.media_driver.specs.Clients.{Attached};
 ghost use Rattle.std.specs.Option.{option_map};
-ghost use Rattle.std.specs.Prelude.{◌≡◌, ℕ, ◌+◌, ◌≤◌, ◌⊎◌, List, Option, IfErr, IfNone, IfSome, IsSome, is_some, Err, None};
+ghost use Rattle.std.specs.Prelude.{◌≡◌, ℕ, ◌≤◌, List, Option, IfErr, IfSome, is_some, None};
 
 use crate::auditing::tell;
 use crate::client::Client;
@@ -29,7 +23,7 @@ use decision_cache::Cache;
 use driver_core::View;
 use log_slots::{Amount, AtEnd, Slot, lock_soon};
 use log_steps::{Answer, Offered};
-use media_agents::{Clock, Dated, DriverNaming, LogAt, Stepped};
+use media_agents::{Clock, Dated, DriverNaming, LogAt};
 use published_registry::{Pass, caches_stay_right_of_later_looks};
 use std::sync::{Mutex, Wait};
 
@@ -64,49 +58,13 @@ fn log_at(registry: &driver_core::Registry, client: u64, registration: u64) -> O
     })
 }
 
-/// An offer to the log whose lock is held, with one look, or none where what was decided is remembered. Where no more messages
-/// are counted, `ended` has that from then on.
-fn offer_held<N: DriverNaming>(
-    slot: &mut Slot<N>,
-    pass: Pass,
-    cache: &mut Cache,
-    remembered: &mut Option<Said>,
-    mine: &mut Amount<N>,
-    ended: &mut Option<AtEnd<N>>,
-    now: u64,
-    client: u64,
-    registration: u64,
-    message: &[u8],
-) -> (Pass, Option<Stepped>)
-    requires part { mine.old.parts ≡ 1 }
-    requires right { AreCached (registry_of pass) cache.old }
-    requires remembered { IsRemembered client remembered.old pass }
-    ensures known { IsContinuedBy pass result.0 }
-    ensures part { mine.new.parts ≡ 1 }
-    ensures right { AreCached (registry_of result.0) cache.new }
-    ensures remembered { IsRemembered client remembered.new result.0 }
-    ensures counted { IfSome result.1 (λ told. (mine.new.number ≡ mine.old.number + taken_by told.answer) ⊎ ((mine.new.number ≡ mine.old.number) × IsSome ended.new)) }
-    ensures none { IfNone result.1 (mine.new.number ≡ mine.old.number) }
-    ensures stamp { IfSome result.1 (λ told. told.stamp ≡ stamp_of result.0) }
-    ensures step { IfSome result.1 (λ told. IsStep N.home (offer_move (registry_of result.0) now client registration message.now) (OfferedAs Closed) told.answer) }
-    ensures decides { IfSome result.1 (λ told. IsDecided N.home (offer_move (registry_of result.0) now client registration message.now) (offer_decision (registry_of result.0) client registration) (OfferedAs Closed) told.answer told.decision) }
-{
-    slot.holds();
-    let (pass, said) = said_now(pass, cache, remembered, client, registration);
-    let Some(said) = said else {
-        return (pass, None);
-    };
-    let told = slot.offer(mine, ended, said.timeout, &said.request, now, message);
-    (pass, Some(Stepped::of(told, said.stamp)))
-}
-
 /// What the answer of a step says.
-fn position_of(told: &Stepped) -> Result<u64, OfferFault>
-    ensures answer { IfSome (offer_answer result) (λ answer. told.now.answer ≡ answer) }
-    ensures counted { IfErr result (λ _. taken_by told.now.answer ≡ 0) }
+fn position_of(answer: &Answer) -> Result<u64, OfferFault>
+    ensures answer { IfSome (offer_answer result) (λ told. answer.now ≡ told) }
+    ensures counted { IfErr result (λ _. taken_by answer.now ≡ 0) }
     ensures seen { (old new : KeptOf Dated) → IfErr result (λ fault. KeepsOffered fault old new) }
 {
-    match &told.answer {
+    match answer {
         Answer::Offered(Offered::At(position)) => Ok(*position),
         Answer::Offered(Offered::TooLong) => Err(OfferFault::TooLong),
         Answer::Offered(Offered::NotConnected) => Err(OfferFault::NotConnected),
@@ -116,6 +74,43 @@ fn position_of(told: &Stepped) -> Result<u64, OfferFault>
         Answer::Denied(verdict) => Err(OfferFault::Denied(*verdict)),
         _ => Err(OfferFault::Closed),
     }
+}
+
+/// Offers a message to the log whose lock is held, with one look, or none where what was decided is remembered, and keeps what
+/// was decided. Where no more messages are counted, `ended` has that from then on.
+fn offer_one<N: DriverNaming>(
+    slot: &mut Slot<N>,
+    pass: Pass,
+    cache: &mut Cache,
+    remembered: &mut Option<Said>,
+    mine: &mut Amount<N>,
+    ended: &mut Option<AtEnd<N>>,
+    audit: &mut AuditOf<Dated>,
+    now: u64,
+    client: u64,
+    registration: u64,
+    message: &[u8],
+) -> (Pass, Result<u64, OfferFault>)
+    requires part { mine.old.parts ≡ 1 }
+    requires right { AreCached (registry_of pass) cache.old }
+    requires remembered { IsRemembered client remembered.old pass }
+    ensures known { IsContinuedBy pass result.0 }
+    ensures part { mine.new.parts ≡ 1 }
+    ensures right { AreCached (registry_of result.0) cache.new }
+    ensures remembered { IsRemembered client remembered.new result.0 }
+    ensures offered { (attached : Attached) → attached.number ≡ client →
+        IsOffered N.home registration message.now result.1
+        (with_offer attached pass now mine.old.number (is_some ended.old) audit.old)
+        (with_offer attached result.0 now mine.new.number (is_some ended.new) audit.new) }
+{
+    slot.holds();
+    let (pass, said) = said_now(pass, cache, remembered, client, registration);
+    let Some(said) = said else {
+        return (pass, Err(OfferFault::NoLook));
+    };
+    let told = slot.offer(mine, ended, said.timeout, &said.request, now, message);
+    tell(audit, said.stamp, told.decision);
+    (pass, position_of(&told.answer))
 }
 
 /// Messages that go one after another.
@@ -169,24 +164,21 @@ fn offer_run<N: DriverNaming, M: Messages, R: Wait>(
         let Some(message) = messages.next() else {
             return (pass, Ok(()));
         };
-        let (next, told) = offer_held(
+        let (next, offered) = offer_one(
             &mut slot,
             pass,
             cache,
             remembered,
             mine,
             ended,
+            audit,
             now,
             client,
             registration,
             message,
         );
         pass = next;
-        let Some(told) = told else {
-            return (pass, Err(OfferFault::NoLook));
-        };
-        tell(audit, told.stamp, told.decision);
-        match position_of(&told) {
+        match offered {
             Ok(position) => messages.taken(position),
             Err(fault) => return (pass, Err(fault)),
         }
