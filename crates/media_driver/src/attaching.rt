@@ -10,6 +10,8 @@ use crate::asking::ask;
 use crate::client::Client;
 use crate::driver::Driver;
 use crate::faults::AttachFault;
+use crate::hints::Hints;
+use crate::pacing::Pace;
 use crate::seat::Seat;
 use crate::seats::FreeSeat;
 use audit_ring::AuditOf;
@@ -24,6 +26,7 @@ use std::thread::Threads;
 #[derive(Drop)]
 struct Handles<N: DriverNaming> {
     slots: Arc<Slots<N>>,
+    hints: Arc<Hints>,
     /// Where nothing was decided yet.
     audit: AuditOf<Dated>,
 }
@@ -34,6 +37,7 @@ impl<N: DriverNaming, R: Threads + Wait, C: Clock + Copy> Driver<N, R, C> {
     {
         Ok(Handles {
             slots: Arc::try_clone(&self.kept.common.slots)?,
+            hints: self.kept.seats.hints()?,
             audit: AuditOf::new(self.alloc)?,
         })
     }
@@ -52,7 +56,11 @@ impl<N: DriverNaming, R: Threads + Wait, C: Clock + Copy> Driver<N, R, C> {
         let counted = self.kept.ledger.counted.split(0);
         let part = self.kept.ledger.clients.split_off(1, 0);
         self.out += 1;
-        let Handles { slots, audit } = handles;
+        let Handles {
+            slots,
+            hints,
+            audit,
+        } = handles;
         let Seat {
             pass,
             queue,
@@ -78,7 +86,8 @@ impl<N: DriverNaming, R: Threads + Wait, C: Clock + Copy> Driver<N, R, C> {
             offered: None,
             polled: None,
             said: None,
-            pace: 0,
+            pace: Pace::new(),
+            hints,
         };
         client.learn(receipt);
         client

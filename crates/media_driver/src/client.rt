@@ -3,7 +3,9 @@
 ghost use Rattle.media_driver.specs.Clients.{Learns};
 ghost use Rattle.std.specs.Prelude.{◌≡◌, ◌≤◌};
 
+use crate::hints::Hints;
 use crate::offering::Found;
+use crate::pacing::Pace;
 use crate::remembering::Said;
 use audit_ring::AuditOf;
 use decision_cache::Cache;
@@ -50,8 +52,10 @@ pub struct Client<N: DriverNaming, C: Clock> {
     pub(crate) said: Option<Said>,
     /// Where the log of the last poll is.
     pub(crate) polled: Option<LogAt>,
-    /// How many steps the next poll rests first.
-    pub(crate) pace: u32,
+    /// What the last polls of that log gave.
+    pub(crate) pace: Pace,
+    /// Those of all logs of publications.
+    pub(crate) hints: Arc<Hints>,
 }
 
 impl<N: DriverNaming, C: Clock> Model for Client<N, C> {

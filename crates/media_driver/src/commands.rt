@@ -4,8 +4,9 @@
 
 ghost use Rattle.command_codec.specs.Command.{command_bytes};
 ghost use Rattle.command_codec.specs.declared.command.Body.TheVariants as bodies;
-ghost use Rattle.media_driver.specs.Clients.{Commands, HandsOn};
-ghost use Rattle.std.specs.Prelude.{◌≡◌, ◌^◌, ◌-◌, [], IfOk};
+ghost use Rattle.media_agents.specs.Sharing.{Sends, SendsNone};
+ghost use Rattle.media_driver.specs.Clients.{Commands, HandsOn, MayRefuse};
+ghost use Rattle.std.specs.Prelude.{◌≡◌, ◌^◌, ◌-◌, [], IfErr, IfOk, OnOk};
 
 use crate::client::Client;
 use crate::faults::PushFault;
@@ -15,7 +16,7 @@ use command_codec::{
     TerminateDriver,
 };
 use driver_core::{Event, Received};
-use media_agents::{Clock, DriverNaming};
+use media_agents::{Clock, CommandSender, DriverNaming};
 use std::alloc::{AllocError, Global};
 use std::sync::Wait;
 
@@ -25,6 +26,17 @@ fn laid_out(alloc: Global, command: Command) -> Result<Received, AllocError>
 {
     let bytes = command.write(alloc)?;
     Received::new(alloc, bytes.as_slice())
+}
+
+/// Pushes an event over this handle; one that is refused is let go.
+fn handed<R: Wait>(queue: &mut CommandSender, rt: &R, event: Event) -> Result<(), PushFault>
+    ensures ok { OnOk result (Sends event queue.old queue.new) }
+    ensures err { IfErr result (λ fault. SendsNone queue.old queue.new × MayRefuse queue.new fault) }
+{
+    match queue.push(rt, event) {
+        Ok(()) => Ok(()),
+        Err(_) => Err(PushFault::QueueFull),
+    }
 }
 
 impl<N: DriverNaming, C: Clock> Client<N, C> {
@@ -38,12 +50,12 @@ impl<N: DriverNaming, C: Clock> Client<N, C> {
     {
         let client = self.number;
         let now = self.now();
-        match self.queue.push(rt, Event::Command { now, client, bytes }) {
+        match handed(&mut self.queue, rt, Event::Command { now, client, bytes }) {
             Ok(()) => {
                 self.moment = now;
                 Ok(())
             }
-            Err(_) => Err(PushFault::QueueFull),
+            Err(fault) => Err(fault),
         }
     }
 

@@ -14,6 +14,7 @@ mod commands;
 mod driver;
 mod eliciting;
 mod faults;
+mod hints;
 mod looking;
 mod mail;
 mod offering;

@@ -16,6 +16,7 @@ ghost use Rattle.std.specs.Prelude.{◌≡◌, ℕ, ◌≤◌, List, Option, IfE
 use crate::auditing::tell;
 use crate::client::Client;
 use crate::faults::OfferFault;
+use crate::hints::Hints;
 use crate::remembering::{Said, said_now};
 use audit_ring::AuditOf;
 use channel_uri::Media;
@@ -130,7 +131,8 @@ pub trait Messages {
         ensures { went self.old position self.new };
 }
 
-/// Offers messages one after another in one hold of a log's lock, so many at most, until one is not taken.
+/// Offers messages one after another in one hold of a log's lock, so many at most, until one is not taken. `reached` is then the
+/// position after the last one that was taken.
 fn offer_run<N: DriverNaming, M: Messages, R: Wait>(
     rt: &R,
     slot: &Mutex<Slot<N>>,
@@ -145,6 +147,7 @@ fn offer_run<N: DriverNaming, M: Messages, R: Wait>(
     registration: u64,
     messages: &mut M,
     most: u32,
+    reached: &mut u64,
 ) -> (Pass, Result<(), OfferFault>)
     requires part { mine.old.parts ≡ 1 }
     requires right { AreCached (registry_of pass) cache.old }
@@ -179,11 +182,24 @@ fn offer_run<N: DriverNaming, M: Messages, R: Wait>(
         );
         pass = next;
         match offered {
-            Ok(position) => messages.taken(position),
+            Ok(position) => {
+                *reached = position;
+                messages.taken(position);
+            }
             Err(fault) => return (pass, Err(fault)),
         }
     }
     (pass, Ok(()))
+}
+
+/// Lets those that wait beside that log's lock know how far offers got, if any was taken.
+fn tell_readers(hints: &Hints, log: Found, reached: u64) {
+    if reached == 0 {
+        return;
+    }
+    if let Some(hint) = hints.of(log.at.slot) {
+        hint.offered(reached);
+    }
 }
 
 /// One message, and the position after it once it was taken.
@@ -279,6 +295,7 @@ impl<N: DriverNaming, C: Clock> Client<N, C> {
         let Some(pass) = self.pass.take() else {
             unreachable!()
         };
+        let mut reached = 0;
         let (pass, offered) = offer_run(
             rt,
             slot,
@@ -293,9 +310,11 @@ impl<N: DriverNaming, C: Clock> Client<N, C> {
             registration,
             messages,
             most,
+            &mut reached,
         );
         self.pass = Some(pass);
         self.moment = now;
+        tell_readers(&self.hints, log, reached);
         if !log.is_shared {
             // what it took is to be sent
             self.queue.wake_sender();

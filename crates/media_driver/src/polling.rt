@@ -17,11 +17,12 @@ ghost use Rattle.std.specs.Prelude.{◌≡◌, Err, None, IfErr, IfOk, IfSome, I
 use crate::auditing::tell;
 use crate::client::Client;
 use crate::faults::PollFault;
-use crate::pacing::next_rest;
+use crate::hints::{Hint, Hints};
+use crate::pacing::Pace;
 use crate::remembering::what_was_said_stays;
 use decision_cache::Cache;
 use driver_core::View;
-use log_slots::{Held, lock_soon, rest};
+use log_slots::{Held, lock_soon};
 use log_steps::{Answer, Answered, FragmentCopies};
 use media_agents::{Clock, CommandSender, DriverNaming, LogAt, Slots, Stamp, Stepped};
 use published_registry::{Pass, caches_stay_right_of_later_looks};
@@ -55,6 +56,28 @@ fn stamped(told: Result<Answered, AllocError>, stamp: Stamp) -> Result<Stepped, 
     ensures err { OnErr result (IsErr told) }
 {
     Ok(Stepped::of(told?, stamp))
+}
+
+/// The hint of the log of a publication. One of an image has none.
+fn hint_at(hints: &Hints, at: LogAt) -> Option<&Hint> {
+    if at.published {
+        hints.of(at.slot)
+    } else {
+        None
+    }
+}
+
+/// Waits before a poll for so many fragments, as the polls before it of that log were answered.
+fn wait_beside(hints: &Hints, at: LogAt, pace: Pace, limit: u32) {
+    pace.wait(hint_at(hints, at), limit);
+}
+
+/// The pace after a poll for so many fragments that was answered so.
+fn pace_after(hints: &Hints, at: LogAt, pace: Pace, limit: u32, told: &Stepped) -> Pace {
+    match &told.answer {
+        Answer::Polled(fragments) => pace.after(hint_at(hints, at), limit, fragments),
+        _ => Pace::new(),
+    }
 }
 
 /// One hold of the lock of a log, with one look within it.
@@ -187,13 +210,14 @@ impl<N: DriverNaming, C: Clock> Client<N, C> {
         let (pass, found) = find(pass, source);
         self.pass = Some(pass);
         self.polled = found.flatten();
+        self.pace = Pace::new();
         found
     }
 
     /// Polls the log of a source by a subscription of this client's: up to `limit` fragments from where it stands. It is one
     /// look, if the client does not remember where that log is, and then one hold of the log's lock with one look within it.
-    /// Where the last polls gave few fragments each, it rests for up to two microseconds before that hold. What was decided is
-    /// kept in the client's audit.
+    /// Where the last polls of that log gave something, it may wait before that hold until there is more, some 20 microseconds at
+    /// most. What was decided is kept in the client's audit.
     ///
     /// # Errors
     /// The first that applies, by the registry of that look: `Gone`, `Denied`; `NoMemory`, only where there are fragments to
@@ -223,7 +247,7 @@ impl<N: DriverNaming, C: Clock> Client<N, C> {
         let Some(pass) = self.pass.take() else {
             unreachable!()
         };
-        rest(self.pace);
+        wait_beside(&self.hints, at, self.pace, limit);
         let (pass, told) = poll_once(
             rt,
             &self.slots,
@@ -242,7 +266,7 @@ impl<N: DriverNaming, C: Clock> Client<N, C> {
         let Ok(told) = told else {
             return Err(PollFault::NoMemory);
         };
-        self.pace = next_rest(self.pace, limit, &told);
+        self.pace = pace_after(&self.hints, at, self.pace, limit, &told);
         wake(&self.queue, at, &told);
         tell(&mut self.audit, told.stamp, told.decision);
         fragments_of(told)

@@ -3,14 +3,17 @@
 ghost use Rattle.media_driver.specs.Parts.{AreFresh};
 ghost use Rattle.std.specs.Prelude.{◌≡◌, ◌+◌, ◌<◌, IfOk, length};
 
+use crate::hints::Hints;
 use crate::mail::REPLIES;
-use crate::parts::{CLIENTS, Hands};
+use crate::parts::{CLIENTS, Hands, PUBLICATIONS};
 use crate::seat::Seat;
+use crate::starting::shared;
 use decision_cache::Cache;
 use media_agents::{Acknowledgements, DriverNaming, Mail, Ring, Rings, share};
 use rtrb::{Consumer, RingBuffer};
 use std::alloc::{AllocError, Global};
 use std::marker::Model;
+use std::sync::Arc;
 
 /// A seat, and by which number the conductor knows its ring.
 #[derive(Drop)]
@@ -19,12 +22,13 @@ pub(crate) struct FreeSeat<N: DriverNaming> {
     pub(crate) seat: Seat<N>,
 }
 
-/// The seats that no client has, in room for all that there are.
+/// The seats that no client has, in room for all that there are, and what all clients share.
 ///
 /// Contracts see how many there are.
 #[derive(Drop)]
 pub(crate) struct Seats<N: DriverNaming> {
     free: Vec<FreeSeat<N>>,
+    hints: Arc<Hints>,
 }
 
 impl<N: DriverNaming> Model for Seats<N> {
@@ -38,14 +42,27 @@ impl<N: DriverNaming> Model for Seats<N> {
     ghost invariant = { λ seats. 64 ≤ vec_capacity seats.free };
 }
 
+/// The hints of all logs of publications.
+fn make_hints(alloc: Global) -> Result<Arc<Hints>, AllocError> {
+    let hints = Hints::new(alloc, PUBLICATIONS)?;
+    shared(alloc, hints)
+}
+
 impl<N: DriverNaming> Seats<N> {
     /// No seats yet, and room for all.
     fn new(alloc: Global) -> Result<Seats<N>, AllocError>
         ensures { IfOk result (λ seats. seats ≡ 0) }
     {
+        let hints = make_hints(alloc)?;
         Ok(Seats {
             free: Vec::with_capacity(alloc, CLIENTS as usize)?,
+            hints,
         })
+    }
+
+    /// The hints of all logs of publications, for a client.
+    pub(crate) fn hints(&self) -> Result<Arc<Hints>, AllocError> {
+        Arc::try_clone(&self.hints)
     }
 
     /// How many there are.
