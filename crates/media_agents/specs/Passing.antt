@@ -1,7 +1,7 @@
 -- The turns of an agent, as they are counted for its gate. Own rules.
 use Rattle.std.specs.Prelude.{ℕ, ◌+◌, ◌-◌, ◌*◌, ◌^◌, ◌==◌, Bool, if◌then◌else◌, min, nat_le}
 use Rattle.media_agents.specs.declared.gate.Agent.{Agent}
-use Rattle.media_agents.specs.declared.gate.Agent.TheVariants.{Conductor, Receiver, Sender}
+use Rattle.media_agents.specs.declared.gate.Agent.TheVariants.{Conductor}
 use Rattle.media_agents.specs.declared.gate.Rest.{Rest}
 use Rattle.media_agents.specs.declared.gate.Rest.TheVariants.{Nothing, Spin, Yield, Sleep}
 use Rattle.media_agents.specs.declared.gate.Turn.{Turn}
@@ -18,15 +18,11 @@ next_turn worked watches turn = record {
   watches = watches;
 }
 
--- for how long an agent sleeps at most that has nothing to look after, in nanoseconds: the conductor has its tick
-abbrev pub pause_at_rest : Agent → ℕ
-pause_at_rest Conductor = 10000000
-pause_at_rest Sender = 100000000
-pause_at_rest Receiver = 100000000
-
--- and before any turn: with something to look after a millisecond for 200 idle turns, and then ten
+-- for how long an agent sleeps at most before a turn, in nanoseconds: the conductor ten milliseconds, which is its tick; another
+-- one that has something to look after a millisecond for 200 idle turns, and then fifty; else a hundred
 abbrev pub longest_pause : Agent → Turn → ℕ
-longest_pause agent turn = if turn.watches then (if nat_le turn.idle 200 then 1000000 else 10000000) else pause_at_rest agent
+longest_pause Conductor turn = 10000000
+longest_pause agent turn = if turn.watches then (if nat_le turn.idle 200 then 1000000 else 50000000) else 100000000
 
 -- for how long an agent sleeps after so many idle turns, in nanoseconds: a microsecond after 61, and twice as long after each
 -- further one, up to the longest

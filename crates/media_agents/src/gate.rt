@@ -89,9 +89,12 @@ const SHORTEST: u64 = 1_000;
 /// For how long an agent sleeps at most that has something to look after, at first, in nanoseconds.
 const MOMENT: u64 = 1_000_000;
 
-/// For how long the conductor sleeps at most, and any agent that has something to look after: no tick, heartbeat or report is
-/// later than that.
-const LONGEST: u64 = 10_000_000;
+/// For how long the conductor sleeps at most: no tick is later than that.
+const TICK: u64 = 10_000_000;
+
+/// For how long the sender and the receiver sleep at most that have something to look after: no heartbeat, SETUP or report is
+/// later than that. Each turn looks at all logs, so that many idle ones cost little only where turns are few.
+const LONGEST: u64 = 50_000_000;
 
 /// For how long the sender and the receiver sleep at most where nothing can be due.
 const AT_REST: u64 = 100_000_000;
@@ -113,16 +116,16 @@ pub enum Rest {
 fn longest_pause(agent: Agent, turn: Turn) -> u64
     ensures { result ≡ longest_pause agent turn }
 {
-    if turn.watches {
-        if turn.idle <= MOMENTS {
-            MOMENT
-        } else {
-            LONGEST
-        }
-    } else {
-        match agent {
-            Agent::Conductor => LONGEST,
-            Agent::Sender | Agent::Receiver => AT_REST,
+    match agent {
+        Agent::Conductor => TICK,
+        Agent::Sender | Agent::Receiver => {
+            if !turn.watches {
+                AT_REST
+            } else if turn.idle <= MOMENTS {
+                MOMENT
+            } else {
+                LONGEST
+            }
         }
     }
 }
@@ -174,10 +177,10 @@ impl Bells {
 }
 
 /// The gate of a driver that runs: an agent that has something to do goes on at once. One that has nothing to do spins at
-/// first, then yields to other threads, and then sleeps, twice as long each time: where it has logs or addresses to look after
-/// up to a millisecond for its first 200 idle turns, and then up to ten; else up to a hundred, the conductor up to ten.
-/// What it waits for ends its sleep: a bell, and for the sender and the receiver a datagram. Only a sleep of less than a
-/// millisecond of theirs lasts.
+/// first, then yields to other threads, and then sleeps, twice as long each time: the conductor up to ten milliseconds, another
+/// one that has logs or addresses to look after up to one for its first 200 idle turns, and then up to fifty; else up to a
+/// hundred. What it waits for ends its sleep: a bell, and for the sender and the receiver a datagram. Only a sleep of less than
+/// a millisecond of theirs lasts, and after 200 idle turns the first millisecond of a sleep after a datagram.
 #[derive(Drop)]
 pub struct Backoff<R> {
     /// By which agents sleep.
@@ -196,9 +199,16 @@ impl<R: Clock + Wait> Backoff<R> {
     fn sleep(&self, bell: &Bell, nanoseconds: u64, sockets: &[i32]) {
         if nanoseconds < MOMENT {
             thread::sleep(&self.rt, Duration::from_nanos(nanoseconds));
-        } else {
-            bell.wait(sockets, (nanoseconds.min(AT_REST) / MOMENT) as i32);
+            return;
         }
+        let mut left = (nanoseconds.min(AT_REST) / MOMENT) as i32;
+        if left > 1 && bell.has_found() {
+            // Heartbeats of many logs come soon after each other, and each turn looks at all logs. Who rings meanwhile ends the
+            // wait after it.
+            thread::sleep(&self.rt, Duration::from_nanos(MOMENT));
+            left -= 1;
+        }
+        bell.wait(sockets, left);
     }
 }
 

@@ -7,12 +7,24 @@ use std::sync::atomic::{AtomicBool, Ordering};
 /// How many sockets a wait looks at, at most.
 const MOST: usize = 512;
 
+/// Whether something came at one of these.
+fn is_there(waited: &[pollfd]) -> bool {
+    for one in waited {
+        if one.revents != 0 {
+            return true;
+        }
+    }
+    false
+}
+
 /// Ends the wait of the one that listens: whoever changed what that one looks at rings.
 pub struct Bell {
     /// A counter of the system's, `eventfd(2)`. Where it gave none nothing ends a wait but datagrams and time.
     counter: i32,
     /// Whether nobody rang since the last wait.
     silent: AtomicBool,
+    /// Whether a datagram was there at the end of the last wait.
+    found: AtomicBool,
 }
 
 impl Bell {
@@ -21,6 +33,7 @@ impl Bell {
         Bell {
             counter: c::eventfd(0, c::EFD_CLOEXEC | c::EFD_NONBLOCK),
             silent: AtomicBool::new(false),
+            found: AtomicBool::new(false),
         }
     }
 
@@ -49,12 +62,22 @@ impl Bell {
             libc::read(self.counter, &mut [0; 8]);
         }
         self.silent.store(true, Ordering::SeqCst);
+        self.found.store(is_there(&all[..count]), Ordering::SeqCst);
+    }
+
+    /// Whether a datagram was there at the end of the last wait.
+    pub fn has_found(&self) -> bool {
+        self.found.load(Ordering::SeqCst)
     }
 }
 
 impl Drop for Bell {
     fn drop(self) {
-        let Self { counter, silent: _ } = self;
+        let Self {
+            counter,
+            silent: _,
+            found: _,
+        } = self;
         libc::close(counter);
     }
 }
