@@ -23,7 +23,7 @@ LONGEST = 400
 TRIES = 5
 
 # The files that have cases, in their order.
-FILES = ("cases_talk", "cases_python", "cases_c", "cases_records", "cases_ends", "cases_bounds", "cases_many", "cases_doors")
+FILES = ("cases_talk", "cases_python", "cases_c", "cases_records", "cases_ends", "cases_bounds", "cases_many", "cases_waits", "cases_doors")
 
 # The code and the text of what an operator is told who asks for nothing in time.
 NOTHING_ASKED = (6, "unknown request")
@@ -223,6 +223,13 @@ def kilobytes(pid):
             if line.startswith("VmRSS:"):
                 return int(line.split()[1])
     raise Failed("no VmRSS")
+
+
+def seconds_of(pid):
+    """How much processor time a process took so far."""
+    with open("/proc/%d/stat" % pid, encoding="ascii") as line:
+        words = line.read().rpartition(")")[2].split()
+    return (int(words[11]) + int(words[12])) / os.sysconf("SC_CLK_TCK")
 
 
 def threads(pid):

@@ -28,6 +28,7 @@ mod serving;
 mod starting;
 mod station;
 mod subscribing;
+mod waking;
 
 use crate::fault::Fault;
 use crate::messages::answer_messages;

@@ -9,16 +9,17 @@ use crate::fault::Fault;
 use crate::publishing::Publishing;
 use crate::reported::{Notes, Reported};
 use crate::running::try_out;
-use crate::station::{Chores, OwnDriver, Station};
+use crate::station::{Chores, OwnDriver, Station, Ties};
 use crate::subscribing::Subscribing;
+use crate::waking::{AtHome, Waking};
 use driver_core::{Peer, Settings};
-use media_driver::{AttachFault, Driver, DriverNaming, Parts};
+use media_driver::{AttachFault, Backoff, Driver, DriverNaming, MachineClock, Parts, StartFault};
 use media_wire::Udp;
 use policy_core::Policy;
 use program_parts::{Disk, Machine};
-use std::alloc::AllocError;
 use std::marker::Brand;
 use std::sync::Arc;
+use std::thread::Parker;
 use wire_causes::Side;
 
 /// How many sockets may be open at once: the send address, an endpoint for each subscription, and a control address for each
@@ -74,7 +75,7 @@ fn attached<N: DriverNaming + Send + Sync + 'static, R: Machine, F: Disk>(
     rt: R,
     files: F,
     driver: OwnDriver<N, R>,
-    notes: Arc<Notes>,
+    ties: Ties,
     work: Work,
 ) -> Result<(), Fault> {
     let mut driver = driver;
@@ -87,7 +88,7 @@ fn attached<N: DriverNaming + Send + Sync + 'static, R: Machine, F: Disk>(
     match driver.client(principal) {
         Ok(client) => {
             let causes = Causes::new(side);
-            let mut station = Station::new(rt, files, driver, client, notes, causes, chores);
+            let mut station = Station::new(rt, files, driver, client, ties, causes, chores);
             let done = perform(&mut station, &task);
             let (driver, client) = station.into_parts();
             let mut clients = Vec::new(rt.alloc());
@@ -102,14 +103,47 @@ fn attached<N: DriverNaming + Send + Sync + 'static, R: Machine, F: Disk>(
     }
 }
 
-/// The sockets of the system, and what is noted there.
-fn wire_of<R: Machine>(rt: R) -> Result<(Reported<Udp<R>>, Arc<Notes>), AllocError> {
-    let wire = Udp::new(rt.alloc(), rt, SOCKETS)?;
-    let Ok(notes) = Arc::new(rt.alloc(), Notes::new()) else {
-        return Err(AllocError);
-    };
-    let theirs = Arc::try_clone(&notes)?;
-    Ok((Reported::new(wire, theirs), notes))
+/// A value that several threads have.
+fn shared<R: Machine, T: Drop>(rt: &R, value: T) -> Result<Arc<T>, Fault> {
+    match Arc::new(rt.alloc(), value) {
+        Ok(shared) => Ok(shared),
+        Err(_) => Err(Fault::NO_MEMORY),
+    }
+}
+
+/// What a driver begins with, beside its parts.
+#[derive(Drop)]
+struct Beginning<R: Machine> {
+    wire: Reported<Udp<R>>,
+    clock: MachineClock<R>,
+    gate: Waking<R, AtHome>,
+}
+
+impl<R: Machine> Beginning<R> {
+    /// Sockets of the system, its time, and a gate at which the client is woken.
+    fn new(rt: R, parts: &Parts, ties: &Ties) -> Result<Beginning<R>, Fault> {
+        let clock = match MachineClock::start(rt) {
+            Ok(clock) => clock,
+            Err(fault) => return Err(Fault::Start(StartFault::Clock(fault))),
+        };
+        let Ties { notes, bell } = ties.again()?;
+        let inner = Backoff::new(rt, parts.bells()?);
+        let wire = Udp::new(rt.alloc(), rt, SOCKETS)?;
+        Ok(Beginning {
+            wire: Reported::new(wire, notes),
+            clock,
+            gate: Waking::new(inner, AtHome { bell }),
+        })
+    }
+}
+
+/// What a driver begins with, and what its client has in common with it.
+fn prepared<R: Machine>(rt: R, parts: &Parts) -> Result<(Beginning<R>, Ties), Fault> {
+    let notes = shared(&rt, Notes::new())?;
+    let bell = shared(&rt, Parker::new())?;
+    let ties = Ties { notes, bell };
+    let beginning = Beginning::new(rt, parts, &ties)?;
+    Ok((beginning, ties))
 }
 
 /// A driver starts from these parts.
@@ -121,16 +155,24 @@ fn started<N: DriverNaming + Send + Sync + 'static, R: Machine, F: Disk>(
 ) -> Result<(), Fault>
     requires { AreNamed N.home N.ledger N.parts N.client_ledger N.client_parts N.book parts }
 {
-    let (wire, notes) = match wire_of(rt) {
-        Ok(made) => made,
-        Err(_) => {
+    let (beginning, ties) = match prepared(rt, &parts) {
+        Ok(prepared) => prepared,
+        Err(fault) => {
             parts.end(&rt);
-            return Err(Fault::NO_MEMORY);
+            return Err(fault);
         }
     };
-    let started: Result<OwnDriver<N, R>, _> = Driver::start(rt, rt.alloc(), parts, wire);
+    let Beginning { wire, clock, gate } = beginning;
+    let started: Result<OwnDriver<N, R>, _> = Driver::start_gated(
+        rt,
+        rt.alloc(),
+        parts,
+        wire,
+        clock,
+        gate,
+    );
     match started {
-        Ok(driver) => attached(rt, files, driver, notes, work),
+        Ok(driver) => attached(rt, files, driver, ties, work),
         Err(fault) => Err(Fault::Start(fault)),
     }
 }

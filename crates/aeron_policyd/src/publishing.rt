@@ -308,13 +308,13 @@ impl<N: DriverNaming + Send + Sync + 'static, R: Machine, F: Disk> Station<N, R,
     /// Looks at the log: how far the subscribers are, and what they did not get.
     fn look(&mut self, progress: &mut Progress, asked: &Publishing) -> Result<(), Fault> {
         // a SETUP that went before the look, and a report that came before it
-        progress.announce(self.notes.take_announced());
+        progress.announce(self.ties.notes.take_announced());
         let found = self
             .client
             .publication_positions(&self.rt, progress.registration);
         if let Ok(positions) = found {
             let least = match positions.consumed {
-                Some(_) => self.notes.take_reported(),
+                Some(_) => self.ties.notes.take_reported(),
                 None => u64::MAX,
             };
             if let Some(gap) = progress.look(&positions, least) {
@@ -353,7 +353,7 @@ impl<N: DriverNaming + Send + Sync + 'static, R: Machine, F: Disk> Station<N, R,
             } else if input.has_ended() {
                 return Ok(());
             } else {
-                pause(&rt, idle);
+                input.pause(&rt, idle);
                 idle = idle.saturating_add(1);
             }
             self.go_on(progress, asked)?;

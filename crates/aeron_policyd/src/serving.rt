@@ -7,8 +7,9 @@ use crate::connecting::Tray;
 use crate::fault::Fault;
 use crate::hosting::{Daemon, Patience, Sources};
 use crate::station::OwnDriver;
+use crate::waking::{AtDoors, Waking};
 use driver_core::{Peer, Settings};
-use media_driver::{Driver, DriverNaming, Parts};
+use media_driver::{Backoff, Driver, DriverNaming, MachineClock, Parts, StartFault};
 use media_wire::Udp;
 use mio::Waker;
 use policy_core::Policy;
@@ -161,15 +162,41 @@ fn with_driver<N: DriverNaming + Send + Sync + 'static, R: Machine, F: Disk>(
     }
 }
 
-/// What a driver is served by, with sockets of the system.
+/// What a driver begins with, beside its parts.
+#[derive(Drop)]
+struct Beginning<R: Machine> {
+    wire: Udp<R>,
+    clock: MachineClock<R>,
+    gate: Waking<R, AtDoors<R>>,
+}
+
+impl<R: Machine> Beginning<R> {
+    /// Sockets of the system, its time, and a gate at which who sleeps at the doors is woken.
+    fn new(rt: R, parts: &Parts, hall: &Hall<'_, R>) -> Result<Beginning<R>, Fault> {
+        let clock = match MachineClock::start(rt) {
+            Ok(clock) => clock,
+            Err(fault) => return Err(Fault::Start(StartFault::Clock(fault))),
+        };
+        let bells = hall.bells()?;
+        let inner = Backoff::new(rt, parts.bells()?);
+        Ok(Beginning {
+            wire: Udp::new(rt.alloc(), rt, SOCKETS)?,
+            clock,
+            gate: Waking::new(inner, AtDoors { rt, bells }),
+        })
+    }
+}
+
+/// What a driver is served by, and what it begins with.
 fn prepared<'a, N: DriverNaming, R: Machine>(
     rt: R,
+    parts: &Parts,
     doors: &'a [Door],
     serving: Serving,
-) -> Result<(Desk<'a, N, R>, Udp<R>), Fault> {
+) -> Result<(Desk<'a, N, R>, Beginning<R>), Fault> {
     let desk = Desk::new(rt, doors, serving)?;
-    let wire = Udp::new(rt.alloc(), rt, SOCKETS)?;
-    Ok((desk, wire))
+    let beginning = Beginning::new(rt, parts, &desk.hall)?;
+    Ok((desk, beginning))
 }
 
 /// A driver starts from these parts, and serves.
@@ -187,14 +214,22 @@ fn started<N: DriverNaming + Send + Sync + 'static, R: Machine, F: Disk>(
         patience,
         sources,
     } = work;
-    let (desk, wire) = match prepared::<N, R>(rt, doors, serving) {
+    let (desk, beginning) = match prepared::<N, R>(rt, &parts, doors, serving) {
         Ok(prepared) => prepared,
         Err(fault) => {
             parts.end(&rt);
             return Err(fault);
         }
     };
-    let started: Result<OwnDriver<N, R>, _> = Driver::start(rt, rt.alloc(), parts, wire);
+    let Beginning { wire, clock, gate } = beginning;
+    let started: Result<OwnDriver<N, R>, _> = Driver::start_gated(
+        rt,
+        rt.alloc(),
+        parts,
+        wire,
+        clock,
+        gate,
+    );
     match started {
         Ok(driver) => {
             with_driver(rt, files, driver, desk, patience, sources);

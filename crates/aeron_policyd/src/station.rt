@@ -13,9 +13,11 @@ use media_driver::{
 use piped_messages::Losses;
 use policy_answers::refusal;
 use policy_query::Document;
-use program_parts::{Disk, Machine, SECOND, report, ticks};
+use program_parts::{Disk, Machine, SECOND, pause_until, report, ticks};
+use std::alloc::AllocError;
 use std::str;
 use std::sync::Arc;
+use std::thread::Parker;
 
 /// The driver of this process.
 pub(crate) type OwnDriver<N, R> = Driver<N, R, MachineClock<R>>;
@@ -55,12 +57,31 @@ struct Due {
     stats: u64,
 }
 
+/// What a client has in common with its driver, beside the driver's own.
+#[derive(Drop)]
+pub(crate) struct Ties {
+    /// What is noted at its sockets.
+    pub(crate) notes: Arc<Notes>,
+    /// What wakes the client.
+    pub(crate) bell: Arc<Parker>,
+}
+
+impl Ties {
+    /// The same once more.
+    pub(crate) fn again(&self) -> Result<Ties, AllocError> {
+        Ok(Ties {
+            notes: Arc::try_clone(&self.notes)?,
+            bell: Arc::try_clone(&self.bell)?,
+        })
+    }
+}
+
 /// A driver with its one client.
 pub(crate) struct Station<N: DriverNaming, R: Machine, F: Disk> {
     pub(crate) rt: R,
     pub(crate) driver: OwnDriver<N, R>,
     pub(crate) client: OwnClient<N, R>,
-    pub(crate) notes: Arc<Notes>,
+    pub(crate) ties: Ties,
     pub(crate) causes: Causes,
     files: F,
     chores: Chores,
@@ -106,7 +127,7 @@ impl<N: DriverNaming + Send + Sync + 'static, R: Machine, F: Disk> Station<N, R,
         files: F,
         driver: OwnDriver<N, R>,
         client: OwnClient<N, R>,
-        notes: Arc<Notes>,
+        ties: Ties,
         causes: Causes,
         chores: Chores,
     ) -> Station<N, R, F> {
@@ -116,7 +137,7 @@ impl<N: DriverNaming + Send + Sync + 'static, R: Machine, F: Disk> Station<N, R,
             rt,
             driver,
             client,
-            notes,
+            ties,
             causes,
             files,
             chores,
@@ -140,7 +161,7 @@ impl<N: DriverNaming + Send + Sync + 'static, R: Machine, F: Disk> Station<N, R,
             rt: _,
             driver,
             client,
-            notes: _,
+            ties: _,
             causes: _,
             files: _,
             chores: _,
@@ -153,6 +174,11 @@ impl<N: DriverNaming + Send + Sync + 'static, R: Machine, F: Disk> Station<N, R,
     /// What the machine's steady clock stands at, in nanoseconds.
     pub(crate) fn now(&self) -> u64 {
         ticks(&self.rt)
+    }
+
+    /// A wait of the client goes on, as by [`pause_until`]: the driver wakes it where something may have come.
+    pub(crate) fn pause(&self, waited: u32) {
+        pause_until(&self.rt, &self.ties.bell, waited);
     }
 
     /// What was lost so far, as the driver counts it.

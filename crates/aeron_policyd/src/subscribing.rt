@@ -195,10 +195,13 @@ impl<N: DriverNaming + Send + Sync + 'static, R: Machine, F: Disk> Station<N, R,
         for _ in rt.forever() {
             self.take_replies(images, asked, of)?;
             let now = self.now();
-            if inbox.is_empty() && self.poll_all(images, inbox, of)? {
+            if !inbox.is_empty() {
+                pause(&rt, idle);
+                idle = idle.saturating_add(1);
+            } else if self.poll_all(images, inbox, of)? {
                 idle = 0;
             } else {
-                pause(&rt, idle);
+                self.pause(idle);
                 idle = idle.saturating_add(1);
             }
             inbox.hand_on(rt.alloc(), output);

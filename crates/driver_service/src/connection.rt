@@ -128,7 +128,7 @@ impl<S: Seat> Connection<S> {
         ensures ends { EndsIn S.does (IsOffer registration message.now) self.old.seat self.new.seat (Offer registration message.now result) }
         ensures refusals { self.new.refusals ≡ self.old.refusals }
     {
-        let mut waiting = Waiting::new(wait);
+        let mut waiting = Waiting::for_room(wait);
         for _ in rt.forever() {
             let told = self.seat.offer(registration, message);
             if is_final(&told) {

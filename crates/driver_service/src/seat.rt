@@ -60,9 +60,9 @@ pub trait Seat {
 
 /// What a connection does while a request waits.
 pub trait Pauses {
-    /// Lets others go on for a while: until something may have come, and for `left` nanoseconds at most. `turn` counts the
+    /// Lets others go on for a while: until something may have come, and for `longest` nanoseconds at most. `turn` counts the
     /// pauses of this wait. Whether to wait on: not where the other end of the connection is gone.
-    fn pause(&mut self, turn: u32, left: u64) -> bool;
+    fn pause(&mut self, turn: u32, longest: u64) -> bool;
 
     /// Whether the driver stops.
     fn is_stopping(&self) -> bool;

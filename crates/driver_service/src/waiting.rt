@@ -6,6 +6,15 @@ use std::time::Clock;
 /// How long a request may wait at most, in nanoseconds.
 const LONGEST: u64 = 1_000_000_000;
 
+/// For how long a pause lasts at most of a wait for room in a log, in nanoseconds, at first and after a while. Where the room
+/// comes by a status message of another host, nobody ends the pause.
+const NAP: u64 = 1_000_000;
+
+const LATER_NAP: u64 = 5_000_000;
+
+/// How long it is until the later ones, in nanoseconds.
+const NAPPING: u64 = 100_000_000;
+
 /// A wait that ends at a moment.
 #[derive(Clone, Copy)]
 pub(crate) struct Waiting {
@@ -13,6 +22,8 @@ pub(crate) struct Waiting {
     end: Option<u64>,
     wait: u64,
     paused: u32,
+    /// Whether it is for room in a log.
+    naps: bool,
 }
 
 /// The machine's clock, in nanoseconds.
@@ -24,7 +35,7 @@ fn now<R: Clock>(rt: &R) -> u64 {
 }
 
 impl Waiting {
-    /// A wait of so many milliseconds, a second at most.
+    /// A wait of so many milliseconds, a second at most, for something that ends a pause as it comes.
     pub(crate) fn new(milliseconds: u32) -> Waiting {
         Waiting {
             end: None,
@@ -32,6 +43,26 @@ impl Waiting {
                 .saturating_mul(1_000_000)
                 .min(LONGEST),
             paused: 0,
+            naps: false,
+        }
+    }
+
+    /// A wait of so many milliseconds, a second at most, for room in a log.
+    pub(crate) fn for_room(milliseconds: u32) -> Waiting {
+        Waiting {
+            naps: true,
+            ..Waiting::new(milliseconds)
+        }
+    }
+
+    /// For how long it pauses at most, where it has so long left, in nanoseconds.
+    fn longest(&self, left: u64) -> u64 {
+        if !self.naps {
+            left
+        } else if self.wait.saturating_sub(left) < NAPPING {
+            left.min(NAP)
+        } else {
+            left.min(LATER_NAP)
         }
     }
 
@@ -43,7 +74,7 @@ impl Waiting {
         let at = now(rt);
         let end = self.end.unwrap_or(at.saturating_add(self.wait));
         self.end = Some(end);
-        if at < end && pauses.pause(self.paused, end - at) {
+        if at < end && pauses.pause(self.paused, self.longest(end - at)) {
             self.paused = self.paused.saturating_add(1);
             return false;
         }

@@ -43,8 +43,8 @@ pub use faults::{
 };
 pub use log_slots::PublicationPositions;
 pub use media_agents::{
-    Agent, Bells, ClientReply, Clock, Dated, DriverNaming, ElicitFault, Elicitation, Gate, Mail,
-    Miss, Repairs, Stamp, Tallies, Tally,
+    Agent, Backoff, Bells, ClientReply, Clock, Dated, DriverNaming, ElicitFault, Elicitation, Gate,
+    Mail, Miss, Repairs, Stamp, Tallies, Tally, Turn,
 };
 pub use offering::Messages;
 pub use parts::Parts;

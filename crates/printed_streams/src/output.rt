@@ -1,11 +1,12 @@
 //! Standard output, to which a thread of its own writes, so that whoever has lines for it never waits for it.
 
-use program_parts::{Machine, PartFault, SECOND, pause};
+use program_parts::{Machine, PartFault, SECOND, pause_until};
 use rtrb::{Consumer, Producer, PushError, RingBuffer};
 use std::alloc::Global;
 use std::io::Write;
 use std::sync::Arc;
 use std::sync::atomic::{AtomicBool, AtomicU64, Ordering};
+use std::thread::Parker;
 use std::{io, thread};
 
 /// How many chunks wait at most.
@@ -14,9 +15,10 @@ const AHEAD: usize = 4;
 /// How many bytes are written at once, at most.
 const PIECE: usize = 4_096;
 
-/// How far the writing thread is.
+/// How far the writing thread is, and what wakes it.
 #[derive(Drop)]
 struct Written {
+    bell: Parker,
     /// How many bytes standard output took.
     bytes: AtomicU64,
     /// Whether it takes no more.
@@ -26,6 +28,7 @@ struct Written {
 impl Written {
     fn new() -> Written {
         Written {
+            bell: Parker::new(),
             bytes: AtomicU64::new(0),
             failed: AtomicBool::new(false),
         }
@@ -60,7 +63,7 @@ fn write_on<R: Machine>(rt: R, chunks: Consumer<Vec<u8>, Global>, written: Arc<W
             }
             Err(_) if chunks.is_abandoned() => return,
             Err(_) => {
-                pause(&rt, idle);
+                pause_until(&rt, &written.bell, idle);
                 idle = idle.saturating_add(1);
             }
         }
@@ -108,6 +111,7 @@ impl Output {
         let length = chunk.len() as u64;
         match self.chunks.push(chunk) {
             Ok(()) => {
+                self.written.bell.unpark();
                 self.handed = self.handed.saturating_add(length);
                 None
             }

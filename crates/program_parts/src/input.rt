@@ -1,12 +1,14 @@
 //! Standard input, which a thread of its own reads, so that its reader never waits for it.
 
 use crate::fault::PartFault;
-use crate::machine::Machine;
+use crate::machine::{Machine, pause_until};
 use piped_messages::{Cut, LONGEST, first_message};
 use rtrb::{Consumer, Producer, PushError, RingBuffer};
 use std::alloc::{AllocError, Global};
 use std::io::Read;
+use std::sync::{Arc, Wait};
 use std::thread;
+use std::thread::Parker;
 use std::time::Duration;
 
 /// How many bytes are read at once, at most.
@@ -56,8 +58,8 @@ fn hand_on<R: Machine>(rt: R, chunks: &mut Producer<Chunk, Global>, chunk: Chunk
     unreachable!()
 }
 
-/// Reads standard input to its end.
-fn read_on<R: Machine>(rt: R, chunks: Producer<Chunk, Global>) {
+/// Reads standard input to its end. Who waits for it is woken by `bell`.
+fn read_on<R: Machine>(rt: R, chunks: Producer<Chunk, Global>, bell: Arc<Parker>) {
     let mut chunks = chunks;
     let mut reader = rt.reader();
     for _ in rt.forever() {
@@ -66,7 +68,9 @@ fn read_on<R: Machine>(rt: R, chunks: Producer<Chunk, Global>) {
             Err(_) => Chunk::NoMemory,
         };
         let goes_on = matches!(&chunk, Chunk::Bytes(_));
-        if !hand_on(rt, &mut chunks, chunk) || !goes_on {
+        let is_there = hand_on(rt, &mut chunks, chunk);
+        bell.unpark();
+        if !is_there || !goes_on {
             return;
         }
     }
@@ -77,6 +81,8 @@ fn read_on<R: Machine>(rt: R, chunks: Producer<Chunk, Global>) {
 #[derive(Drop)]
 pub struct Input {
     chunks: Consumer<Chunk, Global>,
+    /// What wakes who waits for more.
+    bell: Arc<Parker>,
     by: Cut,
     /// What was read and is not done with: from `at` on.
     bytes: Vec<u8>,
@@ -88,9 +94,12 @@ impl Input {
     /// Begins to read. The thread ends with the input, or with the program.
     pub fn open<R: Machine>(rt: R, by: Cut) -> Result<Input, PartFault> {
         let (producer, chunks) = RingBuffer::new(rt.alloc(), AHEAD)?;
-        match thread::spawn(&rt, move || read_on(rt, producer)) {
+        let bell = Arc::new(rt.alloc(), Parker::new())?;
+        let theirs = Arc::try_clone(&bell)?;
+        match thread::spawn(&rt, move || read_on(rt, producer, theirs)) {
             Ok(_) => Ok(Input {
                 chunks,
+                bell,
                 by,
                 bytes: Vec::new(rt.alloc()),
                 at: 0,
@@ -154,5 +163,10 @@ impl Input {
             Ok(Chunk::NoMemory) => Err(PartFault::NoMemory),
             Err(_) => Ok(false),
         }
+    }
+
+    /// A wait for more of it goes on, as by [`pause_until`].
+    pub fn pause<R: Wait>(&self, rt: &R, waited: u32) {
+        pause_until(rt, &self.bell, waited);
     }
 }

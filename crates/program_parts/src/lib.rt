@@ -7,4 +7,4 @@ mod machine;
 
 pub use fault::PartFault;
 pub use input::Input;
-pub use machine::{Disk, Machine, SECOND, pause, report, ticks};
+pub use machine::{Disk, Machine, SECOND, pause, pause_until, report, ticks};

@@ -5,7 +5,7 @@ use std::net::{Net, TcpListener, TcpStream};
 use std::rt::Files;
 use std::sync::Wait;
 use std::thread;
-use std::thread::Threads;
+use std::thread::{Parker, Threads};
 use std::time::{Clock, Duration};
 
 /// A second, in nanoseconds.
@@ -22,6 +22,9 @@ const NAP: u64 = 100;
 
 /// How long it sleeps in the end, in microseconds.
 const SLEEP: u64 = 1_000;
+
+/// How long a wait sleeps that something ends, in microseconds: what is due by time is no later than that.
+const LONGEST: u64 = 10_000;
 
 /// What the program takes of the machine for a driver: its standard streams, memory and clock, threads and sockets. It is
 /// handed on to threads, so the types that it gives are named.
@@ -82,5 +85,15 @@ pub fn pause<R: Clock>(rt: &R, waited: u32) {
         thread::sleep(rt, Duration::from_micros(NAP));
     } else {
         thread::sleep(rt, Duration::from_micros(SLEEP));
+    }
+}
+
+/// A wait goes on until something rings: other threads may run. `waited` counts the pauses of this wait. It may return early,
+/// and does after ten milliseconds.
+pub fn pause_until<R: Wait>(rt: &R, bell: &Parker, waited: u32) {
+    if waited < YIELDS {
+        thread::yield_now();
+    } else {
+        bell.park_timeout(rt, Duration::from_micros(LONGEST));
     }
 }

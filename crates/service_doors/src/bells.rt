@@ -1,4 +1,4 @@
-//! What wakes those who wait: a message in a log, or room there, and the end of a connection.
+//! What wakes those who wait: a message in a log, or room there, what the driver's threads did, and the end of a connection.
 
 use driver_service::Pauses;
 use mio::unix::SourceFd;
@@ -15,14 +15,21 @@ use std::time::{Clock, Duration};
 /// For how long a wait yields to other threads before it sleeps, in nanoseconds.
 const YIELDING: u64 = 50_000;
 
-/// For how long it sleeps shortly then, in nanoseconds. A message of another host, and a reply, wake nobody.
-const NAPPING: u64 = 100_000_000;
+/// How long it sleeps then at once, in nanoseconds. What comes by time alone, as word of a client that was silent for too long,
+/// wakes nobody.
+const SLEEP: u64 = 50_000_000;
 
-/// How long it sleeps shortly, in nanoseconds.
-const NAP: u64 = 1_000_000;
+/// How often a wait may be woken in vain before it sleeps on for a while each time. All who sleep are woken at once, whatever
+/// they wait for.
+const VAIN: u32 = 16;
 
-/// How long it sleeps in the end, in nanoseconds.
-const SLEEP: u64 = 5_000_000;
+/// Which part of what it waited so far it sleeps on then, before it may be woken again.
+const DEAF: u64 = 16;
+
+/// How long that is at least and at most, in nanoseconds; where it were less, it may be woken again at once.
+const LEAST_DEAF: u64 = 1_000_000;
+
+const MOST_DEAF: u64 = 5_000_000;
 
 /// The token of the connection, and that of who wakes.
 const CONNECTION: Token = Token(0);
@@ -57,8 +64,8 @@ impl Bells {
         }
     }
 
-    /// Whoever sleeps goes on.
-    pub(crate) fn ring<R: Wait>(&self, rt: &R) {
+    /// Whoever sleeps goes on: something came that some of them may wait for. Where nobody sleeps, it is one load.
+    pub fn ring<R: Wait>(&self, rt: &R) {
         if self.sleepers.load(Ordering::SeqCst) == 0 {
             return;
         }
@@ -162,6 +169,10 @@ pub struct Watch<R: Clock + Wait + Copy + Drop> {
     bed: Bed,
     /// When this wait began, in nanoseconds of the steady clock.
     began: u64,
+    /// Whether somebody woke it last, and that was in vain if it waits on.
+    woken: bool,
+    /// How often it was woken.
+    wakes: u32,
     /// Whether the other end of the connection is gone.
     gone: bool,
 }
@@ -177,11 +188,6 @@ fn bell_for(alloc: Global, bed: &Bed, number: u64) -> Option<Arc<Bell>> {
     Arc::new(alloc, bell).ok()
 }
 
-/// How long is slept at once by somebody who waited for so long, in nanoseconds.
-fn nap(waited: u64) -> u64 {
-    if waited < NAPPING { NAP } else { SLEEP }
-}
-
 impl<R: Machine> Watch<R> {
     /// A wait of the client of that number. `None` where there is no memory, or the system has no more descriptors.
     pub fn new(rt: R, bells: Arc<Bells>, stream: &UnixStream, number: u64) -> Option<Watch<R>> {
@@ -194,6 +200,8 @@ impl<R: Machine> Watch<R> {
             bell,
             bed,
             began: 0,
+            woken: false,
+            wakes: 0,
             gone: false,
         })
     }
@@ -210,21 +218,40 @@ impl<R: Clock + Wait + Copy + Drop> Watch<R> {
         let now = ticks(&self.rt);
         if turn == 0 {
             self.began = now;
+            self.woken = false;
+            self.wakes = 0;
         }
         now.saturating_sub(self.began)
     }
 
-    /// Sleeps, unless somebody woke it since it dozed. Whether the other end is there.
+    /// Sleeps. Whether the other end is there.
     fn sleep(&mut self, longest: u64) -> bool {
         let left = self.bed.sleep(longest);
-        let _ = self.bells.wakes(&self.bell);
         self.gone = self.gone || left;
         !self.gone
+    }
+
+    /// Sleeps, unless somebody woke it since it dozed. Whether the other end is there.
+    fn doze(&mut self, longest: u64) -> bool {
+        let there = self.sleep(longest);
+        self.woken = !self.bells.wakes(&self.bell);
+        self.wakes = self.wakes.saturating_add(u32::from(self.woken));
+        there
+    }
+}
+
+/// For how long a wait sleeps on that was woken in vain so often and after so long, all in nanoseconds.
+fn deaf_for(wakes: u32, waited: u64) -> u64 {
+    let part = waited / DEAF;
+    if wakes <= VAIN || part < LEAST_DEAF {
+        0
+    } else {
+        part.min(MOST_DEAF)
     }
 }
 
 /// Lets others go on for a while. Whether to wait on.
-fn pause_of<R: Clock + Wait + Copy + Drop>(watch: &mut Watch<R>, turn: u32, left: u64) -> bool {
+fn pause_of<R: Clock + Wait + Copy + Drop>(watch: &mut Watch<R>, turn: u32, longest: u64) -> bool {
     if watch.bells.is_stopping() {
         return false;
     }
@@ -233,16 +260,21 @@ fn pause_of<R: Clock + Wait + Copy + Drop>(watch: &mut Watch<R>, turn: u32, left
         thread::yield_now();
         return true;
     }
+    let deaf = deaf_for(watch.wakes, waited).min(longest);
+    if watch.woken && deaf > 0 {
+        watch.woken = false;
+        return watch.sleep(deaf);
+    }
     if watch.bells.dozes(&watch.bell) {
         // From now on it is woken, so the request is tried once more before it sleeps.
         return true;
     }
-    watch.sleep(nap(waited).min(left))
+    watch.doze(SLEEP.min(longest))
 }
 
 impl<R: Clock + Wait + Copy + Drop> Pauses for Watch<R> {
-    fn pause(&mut self, turn: u32, left: u64) -> bool {
-        pause_of(self, turn, left)
+    fn pause(&mut self, turn: u32, longest: u64) -> bool {
+        pause_of(self, turn, longest)
     }
 
     fn is_stopping(&self) -> bool {

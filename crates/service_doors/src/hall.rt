@@ -126,6 +126,14 @@ impl<'a, R: Machine> Hall<'a, R> {
         }
     }
 
+    /// What wakes those who sleep at the doors.
+    pub fn bells(&self) -> Result<Arc<Bells>, DoorFault> {
+        match Arc::try_clone(&self.bells) {
+            Ok(bells) => Ok(bells),
+            Err(_) => Err(DoorFault::NoMemory),
+        }
+    }
+
     /// What the clients of a principal share, and what wakes them.
     fn entering(&self, stream: UnixStream, principal: u32) -> Result<Entering<R>, Reason>
         ensures ok { IfOk result (λ entering. entering.principal ≡ principal) }

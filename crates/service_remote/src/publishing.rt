@@ -4,7 +4,7 @@ use crate::fault::RemoteFault;
 use crate::remote::Remote;
 use command_codec::{AddPublication, Body};
 use piped_messages::Cut;
-use program_parts::{Disk, Input, Machine, SECOND, pause, ticks};
+use program_parts::{Disk, Input, Machine, SECOND, ticks};
 use service_records::{Answer, Request};
 use std::alloc::Global;
 
@@ -219,7 +219,7 @@ fn send_on<R: Machine>(
         } else if input.has_ended() {
             return Ok(());
         } else {
-            pause(rt, idle);
+            input.pause(rt, idle);
             idle = idle.saturating_add(1);
             stay(remote, &mut heard, ticks(rt))?;
         }
