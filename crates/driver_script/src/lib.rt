@@ -1,7 +1,7 @@
 //! The run of a script: its statements as steps of a world, and the text of the answers.
 //!
-//! A script names principals, opens a world with a policy, and then gives the steps of a run. `docs/SCRIPT.md` has the
-//! language.
+//! A script names principals, opens a world with a policy, and then gives the steps of a run. `docs/internals/SCRIPT.md` has
+//! the language.
 #![tactic(auto)]
 
 pub mod answers;

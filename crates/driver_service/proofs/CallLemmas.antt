@@ -1,8 +1,8 @@
 -- Calls, one after another.
-use Rattle.std.proofs.Common.{arith, ◌≡◌, ℕ, ◌+◌, List, [], ◌∷◌, ◌++◌, append_assoc, sym, subst, ap, ◌∙◌, ◌⊎◌, inl, inr, refl, Bool, true, false, true≢false, Result, Ok, Err, IfOk, OnOk}
-use Rattle.std.proofs.lemmas.List.{append-nil}
+use Rattle.std.proofs.Common.{arith, ◌≡◌, ℕ, ◌+◌, List, [], ◌∷◌, ◌++◌, All, append_assoc, sym, subst, ap, ◌∙◌, ◌⊎◌, inl, inr, refl, Bool, true, false, true≢false, Result, Ok, Err, IfOk, IsErr, OnOk, length}
+use Rattle.std.proofs.lemmas.List.{append-nil, length-append}
 use Rattle.std.proofs.lemmas.List.Elements.{All-append, All-cons, All-nil, All-push, All-weaker}
-use Rattle.driver_service.specs.Answering.{Answers, EndsIn, GivesMail, Offers, TakesMail, all_given, all_written, mail_given, mail_written}
+use Rattle.driver_service.specs.Answering.{Answers, EndsIn, EndsMail, FoundNone, GaveReply, GivesMail, Offers, TakesMail, all_written, mail_written}
 use Rattle.driver_service.specs.Calls.{Call, CallsOnly, Does, Mail, Offer, Poll, Run, Stay}
 use Rattle.driver_service.specs.Requests.{Finishes, GaveNothing, IsMail, IsOffer, IsTry}
 use Rattle.driver_service.specs.declared.reason.Refusal.{Refusal}
@@ -106,55 +106,147 @@ pub written_on : (xs ys : List Call) → all_written (xs ++ ys) ≡ all_written 
 written_on [] ys = refl
 written_on (x ∷ xs) ys = ap (λ (b : List ℕ). mail_written x ++ b) (written_on xs ys) ∙ sym (append_assoc (mail_written x) (all_written xs) (all_written ys))
 
-pub given_on : (xs ys : List Call) → all_given (xs ++ ys) ≡ all_given xs + all_given ys
-given_on [] ys = let e : all_given ys ≡ 0 + all_given ys = omega arith in e
-given_on (x ∷ xs) ys = let e : all_given (xs ++ ys) ≡ all_given xs + all_given ys = given_on xs ys in omega arith
+-- calls with one more, and what was written of them
+pub written_more : (calls : List Call) (call : Call) (out between after : List ℕ) → between ≡ out ++ all_written calls → after ≡ between ++ mail_written call → after ≡ out ++ all_written (calls ++ call ∷ [])
+written_more calls call out between after before appended =
+    appended ∙ (ap (λ (b : List ℕ). b ++ mail_written call) before ∙ (append_assoc out (all_written calls) (mail_written call)
+    ∙ ap (λ (b : List ℕ). out ++ b) (ap (λ (b : List ℕ). all_written calls ++ b) (sym (append-nil (mail_written call))) ∙ sym (written_on calls (call ∷ [])))))
+
+-- replies so far
+pub record Replied {S : Type 0} (does : Does S) (old new : S) (out after : List ℕ) (count : ℕ) : Type 0 where
+  pub replies : List Call
+  pub each : All GaveReply replies
+  pub long : length replies ≡ count
+  pub run : Run does old replies new
+  pub written : after ≡ out ++ all_written replies
 
 -- none yet
-pub no_mail : {S : Type 0} (does : Does S) (s : S) (out : List ℕ) → TakesMail does s s out out 0
-no_mail does s out = record { calls = []; each = All-nil IsMail; run = refl; written = sym (append-nil out); counted = refl }
+pub no_mail : {S : Type 0} (does : Does S) (s : S) (out : List ℕ) → Replied does s s out out 0
+no_mail does s out = record { replies = []; each = All-nil GaveReply; long = refl; run = refl; written = sym (append-nil out) }
 
--- replies after replies
-pub then_mail : {S : Type 0} (does : Does S) (old mid new : S) (out between after : List ℕ) (m n : ℕ) → TakesMail does old mid out between m → TakesMail does mid new between after n → TakesMail does old new out after (m + n)
-then_mail does old mid new out between after m n first rest = record {
-  calls = first.calls ++ rest.calls;
-  each = All-append IsMail first.calls rest.calls first.each rest.each;
-  run = run_on does old mid new first.calls rest.calls first.run rest.run;
-  written =
-      rest.written ∙ (ap (λ (b : List ℕ). b ++ all_written rest.calls) first.written
-      ∙ (append_assoc out (all_written first.calls) (all_written rest.calls) ∙ ap (λ (b : List ℕ). out ++ b) (sym (written_on first.calls rest.calls))));
-  counted =
-      let a : all_given (first.calls ++ rest.calls) ≡ all_given first.calls + all_given rest.calls = given_on first.calls rest.calls in
-      let b : all_given first.calls ≡ m = first.counted in
-      let c : all_given rest.calls ≡ n = rest.counted in
-      omega arith;
+-- one more reply
+pub one_more_reply : {S : Type 0} (does : Does S) (old mid new : S) (out between after bytes : List ℕ) (told : Result Bool Refusal) (count : ℕ) → Replied does old mid out between count → after ≡ between ++ bytes → does mid (Mail bytes told) new → told ≡ Ok true → Replied does old new out after (count + 1)
+one_more_reply does old mid new out between after bytes told count so appended called some =
+    let call = Mail bytes told in
+    record {
+      replies = so.replies ++ call ∷ [];
+      each = All-push GaveReply so.replies call so.each (subst (λ (r : Result Bool Refusal). GaveReply (Mail bytes r)) (sym some) (record {}));
+      long = omega (arith, so.long, length-append so.replies (call ∷ []));
+      run = run_on does old mid new so.replies (call ∷ []) so.run (run_one does mid new call called);
+      written = written_more so.replies call out between after so.written appended;
+    }
+
+-- the call that ends them
+pub mail_ends : {S : Type 0} (does : Does S) (old mid new : S) (out between after bytes : List ℕ) (told : Result Bool Refusal) (count : ℕ) (gave : Result ℕ Refusal) → (so : Replied does old mid out between count) → after ≡ between ++ bytes → does mid (Mail bytes told) new → EndsMail gave (length so.replies) (Mail bytes told ∷ []) → TakesMail does old new out after gave
+mail_ends does old mid new out between after bytes told count gave so appended called ends =
+    let call = Mail bytes told in
+    record {
+      replies = so.replies;
+      last = call ∷ [];
+      each = so.each;
+      ends = ends;
+      run = run_on does old mid new so.replies (call ∷ []) so.run (run_one does mid new call called);
+      written = written_more so.replies call out between after so.written appended;
+    }
+
+pub ends_none : (count long : ℕ) (bytes : List ℕ) (told : Result Bool Refusal) → told ≡ Ok false → long ≡ count → EndsMail (Ok count) long (Mail bytes told ∷ [])
+ends_none count long bytes told none same = subst (λ (r : Result Bool Refusal). EndsMail (Ok count) long (Mail bytes r ∷ [])) (sym none) (ap (λ (n : ℕ). Ok n) (sym same))
+
+pub ends_refused : (long : ℕ) (bytes : List ℕ) (told : Result Bool Refusal) (refusal : Refusal) → told ≡ Err refusal → EndsMail (Err refusal) long (Mail bytes told ∷ [])
+ends_refused long bytes told refusal refused = subst (λ (r : Result Bool Refusal). EndsMail (Err refusal) long (Mail bytes r ∷ [])) (sym refused) refl
+
+-- as many as may be
+pub mail_full : {S : Type 0} (does : Does S) (old new : S) (out after : List ℕ) (count : ℕ) → Replied does old new out after count → count ≡ 256 → TakesMail does old new out after (Ok 256)
+mail_full does old new out after count so many =
+    let long : length so.replies ≡ 256 = so.long ∙ many in
+    record {
+      replies = so.replies;
+      last = [];
+      each = so.each;
+      ends = (ap (λ (n : ℕ). Ok n) (sym long), long);
+      run = subst (λ (calls : List Call). Run does old calls new) (sym (append-nil so.replies)) so.run;
+      written = so.written ∙ ap (λ (calls : List Call). out ++ all_written calls) (sym (append-nil so.replies));
+    }
+
+-- ---- a wait for mail
+
+-- calls that found none
+pub record Waited {S : Type 0} (does : Does S) (old new : S) (out after : List ℕ) : Type 0 where
+  pub idle : List Call
+  pub each : All FoundNone idle
+  pub run : Run does old idle new
+  pub written : after ≡ out ++ all_written idle
+
+pub not_waited : {S : Type 0} (does : Does S) (s : S) (out : List ℕ) → Waited does s s out out
+not_waited does s out = record { idle = []; each = All-nil FoundNone; run = refl; written = sym (append-nil out) }
+
+-- what ends no reply at all found none
+found_none : (gave : Result ℕ Refusal) (last : List Call) → EndsMail gave 0 last → gave ≡ Ok 0 → All FoundNone last
+found_none gave [] ends none = absurd (let e : 0 ≡ 256 = ends.1 in omega (arith, e))
+found_none gave (Mail bytes (Ok false) ∷ []) ends none = All-cons FoundNone (Mail bytes (Ok false)) [] (record {}) (All-nil FoundNone)
+found_none gave (Mail bytes (Err refusal) ∷ []) ends none = absurd (true≢false (sym (subst (λ (r : Result ℕ Refusal). IsErr r) (sym ends ∙ none) refl)))
+found_none gave calls ends none = absurd ends
+
+ends_at : (gave : Result ℕ Refusal) (count : ℕ) (last : List Call) → EndsMail gave count last → gave ≡ Ok 0 → count ≡ 0
+ends_at gave count [] ends none = subst (λ (r : Result ℕ Refusal). IfOk r (λ (n : ℕ). count ≡ n)) none (subst (λ (r : Result ℕ Refusal). IfOk r (λ (n : ℕ). count ≡ n)) (sym ends.0) refl)
+ends_at gave count (Mail bytes (Ok false) ∷ []) ends none = subst (λ (r : Result ℕ Refusal). IfOk r (λ (n : ℕ). count ≡ n)) none (subst (λ (r : Result ℕ Refusal). IfOk r (λ (n : ℕ). count ≡ n)) (sym ends) refl)
+ends_at gave count (Mail bytes (Err refusal) ∷ []) ends none = absurd (true≢false (sym (subst (λ (r : Result ℕ Refusal). IsErr r) (sym ends ∙ none) refl)))
+ends_at gave count calls ends none = absurd ends
+
+none_of : (replies : List Call) → length replies ≡ 0 → replies ≡ []
+none_of [] none = refl
+none_of (call ∷ calls) none = absurd (omega (arith, none))
+
+-- no reply again
+pub waits_on : {S : Type 0} (does : Does S) (old mid new : S) (out between after : List ℕ) (gave : Result ℕ Refusal) → gave ≡ Ok 0 → Waited does old mid out between → TakesMail does mid new between after gave → Waited does old new out after
+waits_on {S} does old mid new out between after gave none so taken =
+    let zero = ends_at gave (length taken.replies) taken.last taken.ends none in
+    let empty = none_of taken.replies zero in
+    let found = found_none gave taken.last (subst (λ (n : ℕ). EndsMail gave n taken.last) zero taken.ends) none in
+    let only : taken.replies ++ taken.last ≡ taken.last = ap (λ (calls : List Call). calls ++ taken.last) empty in
+    record {
+      idle = so.idle ++ taken.last;
+      each = All-append FoundNone so.idle taken.last so.each found;
+      run = run_on does old mid new so.idle taken.last so.run (subst (λ (calls : List Call). Run does mid calls new) only taken.run);
+      written =
+          taken.written ∙ (ap (λ (calls : List Call). between ++ all_written calls) only ∙ (ap (λ (b : List ℕ). b ++ all_written taken.last) so.written
+          ∙ (append_assoc out (all_written so.idle) (all_written taken.last) ∙ ap (λ (b : List ℕ). out ++ b) (sym (written_on so.idle taken.last)))));
+    }
+
+pub gives_mail : {S : Type 0} (does : Does S) (old mid new : S) (out between after : List ℕ) (gave : Result ℕ Refusal) → Waited does old mid out between → TakesMail does mid new between after gave → GivesMail does old new out after gave
+gives_mail does old mid new out between after gave so taken = record {
+  idle = so.idle;
+  each = so.each;
+  between = mid;
+  waited = so.run;
+  taken = subst (λ (b : List ℕ). TakesMail does mid new b after gave) so.written taken;
 }
 
--- one call
-pub mail_once : {S : Type 0} (does : Does S) (old new : S) (out after bytes : List ℕ) (result : Result Bool Refusal) (n : ℕ) → after ≡ out ++ bytes → does old (Mail bytes result) new → mail_given (Mail bytes result) ≡ n → TakesMail does old new out after n
-mail_once does old new out after bytes result n appended called given = record {
-  calls = Mail bytes result ∷ [];
-  each = All-cons IsMail (Mail bytes result) [] (record {}) (All-nil IsMail);
-  run = run_one does old new (Mail bytes result) called;
-  written = appended ∙ ap (λ (b : List ℕ). out ++ b) (sym (append-nil bytes));
-  counted = let e : mail_given (Mail bytes result) ≡ n = given in omega arith;
-}
+reply_is_mail : (call : Call) → GaveReply call → IsMail call
+reply_is_mail (Mail bytes (Ok true)) gave = record {}
+reply_is_mail (Mail bytes (Ok false)) gave = record {}
+reply_is_mail (Mail bytes (Err refusal)) gave = record {}
+reply_is_mail call gave = absurd gave
+
+none_is_mail : (call : Call) → FoundNone call → IsMail call
+none_is_mail (Mail bytes (Ok true)) found = record {}
+none_is_mail (Mail bytes (Ok false)) found = record {}
+none_is_mail (Mail bytes (Err refusal)) found = record {}
+none_is_mail call found = absurd found
+
+last_is_mail : (gave : Result ℕ Refusal) (count : ℕ) (last : List Call) → EndsMail gave count last → All IsMail last
+last_is_mail gave count [] ends = All-nil IsMail
+last_is_mail gave count (Mail bytes (Ok false) ∷ []) ends = All-cons IsMail (Mail bytes (Ok false)) [] (record {}) (All-nil IsMail)
+last_is_mail gave count (Mail bytes (Err refusal) ∷ []) ends = All-cons IsMail (Mail bytes (Err refusal)) [] (record {}) (All-nil IsMail)
+last_is_mail gave count calls ends = absurd ends
 
 -- of replies, the calls
 pub of_mail : {S : Type 0} (does : Does S) (old new : S) (out after : List ℕ) (gave : Result ℕ Refusal) → GivesMail does old new out after gave → CallsOnly does IsMail old new
-of_mail does old new out after gave gives = record { calls = gives.taken.calls; each = gives.taken.each; run = gives.taken.run }
-
--- replies, where none were there before
-pub then_gives : {S : Type 0} (does : Does S) (old mid new : S) (out between after : List ℕ) (gave : Result ℕ Refusal) → TakesMail does old mid out between 0 → GivesMail does mid new between after gave → GivesMail does old new out after gave
-then_gives does old mid new out between after gave first gives = record {
-  count = gives.count;
-  taken = let e : 0 + gives.count ≡ gives.count = omega arith in subst (λ (k : ℕ). TakesMail does old new out after k) e (then_mail does old mid new out between after 0 gives.count first gives.taken);
-  gave_is = gives.gave_is;
-}
-
--- and there were none again
-pub then_none : {S : Type 0} (does : Does S) (old mid new : S) (out between after : List ℕ) (gave : Result ℕ Refusal) → gave ≡ Ok 0 → TakesMail does old mid out between 0 → GivesMail does mid new between after gave → TakesMail does old new out after 0
-then_none does old mid new out between after gave none first gives =
-    let e : 0 ≡ gives.count = subst (λ (r : Result ℕ Refusal). IfOk r (λ (n : ℕ). n ≡ gives.count)) none gives.gave_is in
-    let z : 0 + gives.count ≡ 0 = omega (arith, e) in
-    subst (λ (k : ℕ). TakesMail does old new out after k) z (then_mail does old mid new out between after 0 gives.count first gives.taken)
+of_mail does old new out after gave gives =
+    let taken = gives.taken in
+    let replies = All-append IsMail taken.replies taken.last (All-weaker GaveReply IsMail reply_is_mail taken.replies taken.each) (last_is_mail gave (length taken.replies) taken.last taken.ends) in
+    record {
+      calls = gives.idle ++ (taken.replies ++ taken.last);
+      each = All-append IsMail gives.idle (taken.replies ++ taken.last) (All-weaker FoundNone IsMail none_is_mail gives.idle gives.each) replies;
+      run = run_on does old gives.between new gives.idle (taken.replies ++ taken.last) gives.waited taken.run;
+    }

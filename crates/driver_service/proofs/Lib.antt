@@ -1,2 +1,3 @@
 pub mod CallLemmas
+pub mod GatherLemmas
 pub mod RoundLemmas

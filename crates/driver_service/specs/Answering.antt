@@ -1,8 +1,9 @@
 -- What a request is answered. Own rules.
-use Rattle.std.specs.Prelude.{◌≡◌, ◌≢◌, ℕ, ℤ, ◌+◌, ◌%◌, ◌^◌, ◌⊎◌, List, [], ◌∷◌, ◌++◌, All, true, Some, None, Result, Ok, Err, IfOk, OnOk}
+use Rattle.std.specs.Prelude.{◌≡◌, ◌≢◌, ℕ, ℤ, ◌+◌, ◌%◌, ◌^◌, ◌⊎◌, List, [], ◌∷◌, ◌++◌, All, length, true, false, Some, None, Result, Ok, Err, IfOk, OnOk}
 use Rattle.driver_service.specs.Calls.{Call, Does, Run, Stay, Command, Offer, Poll, Mail, Look, Value, Publication, Image}
 use Rattle.driver_service.specs.Positions.{image_record, publication_record}
-use Rattle.driver_service.specs.Requests.{IsCommand, IsImage, IsLook, IsMail, IsOffer, IsPoll, IsPublication, IsTry, IsValue, fragments, polled_pairs}
+use Rattle.driver_service.specs.Gathering.{Gathered, asked}
+use Rattle.driver_service.specs.Requests.{IsCommand, IsImage, IsLook, IsOffer, IsPoll, IsPublication, IsTry, IsValue, fragments, polled_pairs}
 use Rattle.driver_service.specs.Rounds.{AnswersAll}
 use Rattle.driver_service.specs.Reasons.{refusal_code, refusal_text}
 use Rattle.driver_service.specs.declared.positions.ImagePositions.{ImagePositions}
@@ -49,7 +50,7 @@ call_bytes (Command bytes None) = answer_bytes (answers.Done 0) []
 call_bytes (Command bytes (Some refusal)) = refused_bytes refusal
 call_bytes (Offer registration message (Ok position)) = answer_bytes (answers.Taken position) []
 call_bytes (Offer registration message (Err refusal)) = refused_bytes refusal
-call_bytes (Poll subscription source limit written result) = written ++ done_bytes result
+call_bytes (Poll subscription source limit written result) = written
 call_bytes (Mail written result) = written
 call_bytes (Look written result) = written ++ done_bytes result
 call_bytes (Value number result) = value_bytes result
@@ -68,6 +69,23 @@ pub record Answers {S E : Type 0} (does : Does S) (own : Call → Type 0) (old n
   pub last : Call
   pub ends : EndsIn does own old new last
   pub answered : OnOk told (after ≡ out ++ call_bytes last)
+
+-- A poll is made again while it gives nothing.
+pub record PollsOne {S : Type 0} (does : Does S) (subscription source limit : ℕ) (old new : S) (out after : List ℕ) (gave : Result ℕ Refusal) : Type 0 where
+  pub tries : List Call
+  pub each : All (IsTry (IsPoll subscription source (asked (fragments limit)))) tries
+  pub between : S
+  pub tried : Run does old tries between
+  pub written : List ℕ
+  pub last : Gathered does subscription source limit (length out) between new written gave
+  pub appended : after ≡ out ++ written
+
+-- and what the last one gave is answered
+pub record AnswersOne {S E : Type 0} (does : Does S) (subscription source limit : ℕ) (old new : S) (out after : List ℕ) (told : Result Unit E) : Type 0 where
+  pub gave : Result ℕ Refusal
+  pub between : List ℕ
+  pub polls : PollsOne does subscription source limit old new out between gave
+  pub answered : OnOk told (after ≡ between ++ done_bytes gave)
 
 -- one more refusal, by 2^32
 abbrev pub one_more_refusal : ℕ → ℕ
@@ -105,37 +123,48 @@ pub record Refuses {S E : Type 0} (old new : S) (reason : Reason) (out after : L
   pub same : new ≡ old
   pub answered : OnOk told (after ≡ out ++ refused_bytes (Because reason))
 
--- what a call for mail wrote, and how many replies it gave
+-- what a call for mail wrote
 abbrev pub mail_written : Call → List ℕ
 mail_written (Mail written result) = written
 mail_written call = []
-
-abbrev pub mail_given : Call → ℕ
-mail_given (Mail written (Ok true)) = 1
-mail_given call = 0
 
 -- and such calls together
 abbrev pub all_written : List Call → List ℕ
 all_written [] = []
 all_written (call ∷ calls) = mail_written call ++ all_written calls
 
-abbrev pub all_given : List Call → ℕ
-all_given [] = 0
-all_given (call ∷ calls) = mail_given call + all_given calls
+-- a call that gave a reply, and one that found none
+abbrev pub GaveReply : Call → Type 0
+GaveReply (Mail written (Ok true)) = Unit {0}
+GaveReply call = ⊥
 
--- so many replies were taken, and what was written of them stands at the end
-pub record TakesMail {S : Type 0} (does : Does S) (old new : S) (out after : List ℕ) (count : ℕ) : Type 0 where
-  pub calls : List Call
-  pub each : All IsMail calls
-  pub run : Run does old calls new
-  pub written : after ≡ out ++ all_written calls
-  pub counted : all_given calls ≡ count
+abbrev pub FoundNone : Call → Type 0
+FoundNone (Mail written (Ok false)) = Unit {0}
+FoundNone call = ⊥
 
--- and so many were counted, or why there are no more is said
+-- Replies are taken until there are no more, or the next one is refused; 256 at most.
+abbrev pub EndsMail : Result ℕ Refusal → ℕ → List Call → Type 0
+EndsMail gave count [] = (gave ≡ Ok count) × (count ≡ 256)
+EndsMail gave count (Mail written (Ok false) ∷ []) = gave ≡ Ok count
+EndsMail gave count (Mail written (Err refusal) ∷ []) = gave ≡ Err refusal
+EndsMail gave count calls = ⊥
+
+-- each of these gave a reply, the last one no more; and what was written of all stands at the end
+pub record TakesMail {S : Type 0} (does : Does S) (old new : S) (out after : List ℕ) (gave : Result ℕ Refusal) : Type 0 where
+  pub replies : List Call
+  pub last : List Call
+  pub each : All GaveReply replies
+  pub ends : EndsMail gave (length replies) last
+  pub run : Run does old (replies ++ last) new
+  pub written : after ≡ out ++ all_written (replies ++ last)
+
+-- and there were none for a while before
 pub record GivesMail {S : Type 0} (does : Does S) (old new : S) (out after : List ℕ) (gave : Result ℕ Refusal) : Type 0 where
-  pub count : ℕ
-  pub taken : TakesMail does old new out after count
-  pub gave_is : IfOk gave (λ n. n ≡ count)
+  pub idle : List Call
+  pub each : All FoundNone idle
+  pub between : S
+  pub waited : Run does old idle between
+  pub taken : TakesMail does between new (out ++ all_written idle) after gave
 
 -- replies are answered by their records, and by the one that closes them
 pub record AnswersMail {S E : Type 0} (does : Does S) (old new : S) (out after : List ℕ) (told : Result Unit E) : Type 0 where
@@ -148,14 +177,14 @@ pub record AnswersMail {S E : Type 0} (does : Does S) (old new : S) (out after :
 abbrev pub IsAnswer : {S E : Type 0} → Does S → Request → List ℕ → ℕ → ℕ → S → S → List ℕ → List ℕ → Result Unit E → Type 0
 IsAnswer does requests.Command tail refusals later old new out after told = Answers does (IsCommand tail) old new out after told
 IsAnswer does (requests.Offer seen wait registration) tail refusals later old new out after told = Offers does registration tail seen refusals later old new out after told
-IsAnswer does (requests.Poll limit wait subscription source) tail refusals later old new out after told = Answers does (IsPoll subscription source (fragments limit)) old new out after told
+IsAnswer does (requests.Poll limit wait subscription source) tail refusals later old new out after told = AnswersOne does subscription source limit old new out after told
 IsAnswer does (requests.Mail wait) tail refusals later old new out after told = AnswersMail does old new out after told
 IsAnswer does requests.List tail refusals later old new out after told = Answers does IsLook old new out after told
 IsAnswer does (requests.Value number) tail refusals later old new out after told = Answers does (IsValue number) old new out after told
 IsAnswer does requests.Stop tail refusals later old new out after told = Refuses old new reasons.NotOperator out after told
 IsAnswer does requests.Reload tail refusals later old new out after told = Refuses old new reasons.NotOperator out after told
 IsAnswer does requests.Status tail refusals later old new out after told = Refuses old new reasons.NotOperator out after told
-IsAnswer does (requests.PollAll limit wait) tail refusals later old new out after told = AnswersAll does (fragments limit) (polled_pairs tail) old new out after told
+IsAnswer does (requests.PollAll limit wait) tail refusals later old new out after told = AnswersAll does limit (polled_pairs tail) old new out after told
 IsAnswer does (requests.PublicationPositions registration) tail refusals later old new out after told = Answers does (IsPublication registration) old new out after told
 IsAnswer does (requests.ImagePositions subscription source) tail refusals later old new out after told = Answers does (IsImage subscription source) old new out after told
 

@@ -1,5 +1,5 @@
 -- Which calls a request makes. Own rules.
-use Rattle.std.specs.Prelude.{◌≡◌, ℕ, ◌⊎◌, Bool, true, List, [], ◌∷◌, take, Result, Ok, Err, min}
+use Rattle.std.specs.Prelude.{◌≡◌, ◌≤◌, ℕ, ◌⊎◌, Bool, true, List, [], ◌∷◌, take, Result, Ok, Err, min}
 use Rattle.driver_service.specs.declared.reason.Refusal.{Refusal}
 use Rattle.driver_service.specs.Calls.{Call, CallsOnly, Does, Stay, Command, Offer, Poll, Mail, Look, Value, Publication, Image}
 use Rattle.service_records.specs.declared.fault.RecordFault.{RecordFault}
@@ -20,10 +20,15 @@ abbrev pub IsPoll : ℕ → ℕ → ℕ → Call → Type 0
 IsPoll subscription source limit (Poll s l n _ _) = (s ≡ subscription) × (l ≡ source) × (n ≡ limit)
 IsPoll subscription source limit _ = ⊥
 
+-- for so many fragments at most
+abbrev pub IsPollWithin : ℕ → ℕ → ℕ → Call → Type 0
+IsPollWithin subscription source limit (Poll s l n _ _) = (s ≡ subscription) × (l ≡ source) × (n ≤ limit)
+IsPollWithin subscription source limit _ = ⊥
+
 -- of one of these pairs
 abbrev pub IsPollOf : ℕ → List (ℕ × ℕ) → Call → Type 0
 IsPollOf limit [] call = ⊥
-IsPollOf limit (pair ∷ pairs) call = IsPoll pair.0 pair.1 limit call ⊎ IsPollOf limit pairs call
+IsPollOf limit (pair ∷ pairs) call = IsPollWithin pair.0 pair.1 limit call ⊎ IsPollOf limit pairs call
 
 -- the pairs that are polled of those that came: 64 at most
 abbrev pub polled_pairs : List ℕ → List (ℕ × ℕ)
@@ -71,7 +76,7 @@ Finishes final (Err refusal) = Unit {0}
 abbrev pub IsNamed : Request → List ℕ → Call → Type 0
 IsNamed requests.Command tail call = IsCommand tail call
 IsNamed (requests.Offer seen wait registration) tail call = IsOffer registration tail call
-IsNamed (requests.Poll limit wait subscription source) tail call = IsPoll subscription source (fragments limit) call
+IsNamed (requests.Poll limit wait subscription source) tail call = IsPollWithin subscription source (fragments limit) call
 IsNamed (requests.Mail wait) tail call = IsMail call
 IsNamed requests.List tail call = IsLook call
 IsNamed (requests.Value number) tail call = IsValue number call

@@ -1,12 +1,13 @@
 //! What a request does, and what it is answered.
 
 ghost use Rattle.driver_service.specs.Calls.{Call, CallsOnly};
-ghost use Rattle.driver_service.specs.Requests.{DoesRecord, Finishes, IsAllowed, IsCommand, IsImage, IsLook, IsOffer, IsPoll, IsPublication, IsValue, fragments};
-ghost use Rattle.driver_service.specs.Answering.{Answers, AnswersRecord, EndsIn, GivesMail, IsAnswered, Offers, done_bytes, fault_reason, refused_bytes, value_bytes};
-ghost use Rattle.driver_service.specs.Calls.{Offer, Poll, Writes};
+ghost use Rattle.driver_service.specs.Requests.{DoesRecord, Finishes, IsAllowed, IsCommand, IsImage, IsLook, IsOffer, IsPublication, IsValue};
+ghost use Rattle.driver_service.specs.Answering.{Answers, AnswersOne, AnswersRecord, EndsIn, GivesMail, IsAnswered, Offers, PollsOne, TakesMail, done_bytes, fault_reason, refused_bytes, value_bytes};
+ghost use Rattle.driver_service.specs.Calls.{Offer};
 ghost use Rattle.service_records.specs.Request.{request_of};
 ghost use Rattle.std.specs.Prelude.{◌≡◌, ◌++◌, List, OnOk};
 
+use crate::gathering::gather;
 use crate::positions::{tell_image, tell_publication};
 use crate::reason::{Reason, Refusal};
 use crate::rounds::answer_rounds;
@@ -16,9 +17,6 @@ use service_records::{Answer, RecordFault, Request};
 use std::alloc::AllocError;
 use std::sync::Wait;
 use std::time::Clock;
-
-/// How many fragments a poll gives at most.
-const FRAGMENTS: u32 = 4_096;
 
 /// How many replies are given at once, at most.
 const REPLIES: u32 = 256;
@@ -83,13 +81,6 @@ fn is_final(told: &Result<u64, Refusal>) -> bool
 /// Whether it is to be made again at once.
 fn is_at_once(told: &Result<u64, Refusal>) -> bool {
     matches!(told, Err(Refusal::Because(Reason::AdminAction)))
-}
-
-/// A poll gives so many fragments at most.
-fn few(limit: u32) -> u32
-    ensures { result ≡ fragments limit }
-{
-    limit.min(FRAGMENTS)
 }
 
 impl<S: Seat> Connection<S> {
@@ -179,13 +170,12 @@ impl<S: Seat> Connection<S> {
         wait: u32,
         out: &mut Vec<u8>,
     ) -> Result<u32, Refusal>
-        ensures ends { Writes out.old.items out.new.items (λ bytes. EndsIn S.does (IsPoll subscription source (fragments limit)) self.old.seat self.new.seat (Poll subscription source (fragments limit) bytes result)) }
+        ensures polls { PollsOne S.does subscription source limit self.old.seat self.new.seat out.old.items out.new.items result }
         ensures refusals { self.new.refusals ≡ self.old.refusals }
     {
-        let limit = few(limit);
         let mut waiting = Waiting::new(wait);
         for _ in rt.forever() {
-            let polled = self.seat.poll(subscription, source, limit, out);
+            let polled = gather(&mut self.seat, subscription, source, limit, out);
             match polled {
                 Ok(0) => {
                     if waiting.is_over(rt, pauses) {
@@ -209,7 +199,7 @@ impl<S: Seat> Connection<S> {
         wait: u32,
         out: &mut Vec<u8>,
     ) -> Result<(), AllocError>
-        ensures answers { Answers S.does (IsPoll subscription source (fragments limit)) self.old.seat self.new.seat out.old.items out.new.items result }
+        ensures answers { AnswersOne S.does subscription source limit self.old.seat self.new.seat out.old.items out.new.items result }
         ensures refusals { self.new.refusals ≡ self.old.refusals }
     {
         let polled = self.poll(rt, pauses, subscription, source, limit, wait, out);
@@ -218,7 +208,7 @@ impl<S: Seat> Connection<S> {
 
     /// The replies that are there.
     fn replies(&mut self, out: &mut Vec<u8>) -> Result<u32, Refusal>
-        ensures gives { GivesMail S.does self.old.seat self.new.seat out.old.items out.new.items result }
+        ensures takes { TakesMail S.does self.old.seat self.new.seat out.old.items out.new.items result }
         ensures refusals { self.new.refusals ≡ self.old.refusals }
     {
         for count in 0..REPLIES {
@@ -308,8 +298,8 @@ impl<S: Seat> Connection<S> {
         }
     }
 
-    /// What a request does: one call of the client, or the same one again while it waits. The answer stands at the end of
-    /// `out`: records of what came, and one that closes it.
+    /// What a request does: one call of the client, or the same one again while it waits; a poll may be several, until much is to
+    /// be written. The answer stands at the end of `out`: records of what came, and one that closes it.
     pub fn answer<R: Clock + Wait, P: Pauses>(
         &mut self,
         rt: &R,
@@ -345,7 +335,6 @@ impl<S: Seat> Connection<S> {
             Request::Reload => refuse(&Refusal::Because(Reason::NotOperator), out),
             Request::Status => refuse(&Refusal::Because(Reason::NotOperator), out),
             Request::PollAll { limit, wait } => {
-                let limit = few(limit);
                 answer_rounds(rt, pauses, &mut self.seat, tail, limit, wait, out)
             }
             Request::PublicationPositions { registration } => {

@@ -1,9 +1,10 @@
-//! What a driver does for a client that is in another process: a connection answers each request by one call of its client.
+//! What a driver does for a client that is in another process: a connection answers each request by calls of its client.
 //!
 //! A [`Seat`] is a client as a connection uses it. [`Connection::answer`] is the whole of what a request does.
 #![tactic(auto)]
 
 mod connection;
+mod gathering;
 mod positions;
 mod reason;
 mod rounds;

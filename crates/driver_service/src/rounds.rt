@@ -4,6 +4,7 @@ ghost use Rattle.driver_service.specs.Requests.{polled_pairs};
 ghost use Rattle.driver_service.specs.Rounds.{AnswersAll, Part, PollsAll, Round, part_refused_bytes};
 ghost use Rattle.std.specs.Prelude.{◌≡◌, ◌++◌, OnOk};
 
+use crate::gathering::{FULL, gather};
 use crate::reason::Refusal;
 use crate::seat::{Pauses, Seat};
 use crate::waiting::Waiting;
@@ -35,7 +36,7 @@ fn poll_part<S: Seat>(
 {
     let before = out.len();
     let headed = Answer::Part { place }.put(&[], out);
-    let polled = seat.poll(pair.subscription, pair.source, limit, out);
+    let polled = gather(seat, pair.subscription, pair.source, limit, out);
     headed?;
     match polled {
         Ok(0) => {
@@ -50,7 +51,7 @@ fn poll_part<S: Seat>(
     }
 }
 
-/// Polls each of the pairs once, in their order: how many gave something.
+/// Polls each of the pairs once, in their order, until much is to be written: how many gave something.
 fn poll_round<S: Seat>(
     seat: &mut S,
     pairs: &[u8],
@@ -62,6 +63,9 @@ fn poll_round<S: Seat>(
     let mut left = pairs;
     let mut count = 0u32;
     for place in 0..PAIRS {
+        if out.len() >= FULL {
+            return Ok(count);
+        }
         let Some(first) = first_pair(left) else {
             return Ok(count);
         };

@@ -1,6 +1,6 @@
 //! Answers to questions about policies, as JSON on one line.
 //!
-//! Each answer is an object, whose members stand in the order of their names. `docs/JSON.md` has them all.
+//! Each answer is an object, whose members stand in the order of their names. `docs/POLICY.md` has them all.
 #![tactic(auto)]
 
 mod answers;

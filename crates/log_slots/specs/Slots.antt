@@ -1,5 +1,5 @@
 -- What the lock of a slot for logs guards, and what a step makes of it. Own rules.
-use Rattle.std.specs.Prelude.{◌≡◌, ℕ, ℤ, ◌==◌, ◌&&◌, Bool, true, false, List, [], ◌∷◌, Option, Some, None, if◌then◌else◌}
+use Rattle.std.specs.Prelude.{◌≡◌, ℕ, ℤ, ◌==◌, ◌&&◌, Bool, true, false, List, [], ◌∷◌, Option, Some, None, IfSome, if◌then◌else◌}
 use Rattle.std.specs.Ordering.{int_eq}
 use Rattle.log_steps.specs.declared.answer.Answer.{Answer}
 use Rattle.log_steps.specs.declared.packets.PacketRequest.{PacketRequest}
@@ -11,6 +11,7 @@ use Rattle.log_steps.specs.Receiving.{unheard}
 use Rattle.frame_codec.specs.Datagram.{Content, frames}
 use Rattle.log_arena.specs.Homes.{Home}
 use Rattle.log_traffic.specs.Held.{Made, for_publication, for_stream, is_silent_held, made_held, messages_held, place_held, reach_held, rejoined_held}
+use Rattle.log_traffic.specs.Whole.{HasWhole}
 use Rattle.policy_core.specs.declared.decision.Decision.{Decision}
 
 -- the number of the log that is there, or was there last, and its session and stream; and the log, while it is open
@@ -34,6 +35,11 @@ pub record IsOwn (home : Home) (source : ℕ) (session stream : ℤ) (held : Hel
 abbrev pub IsSlot : Home → ℕ → ℤ → ℤ → Option HeldLog → Type 0
 IsSlot home source session stream None = Unit {0}
 IsSlot home source session stream (Some held) = IsOwn home source session stream held
+
+-- a lock may guard this: a log that is open lies in that region, is made for what the slot says, and stands for a whole log
+pub record IsLocked (home : Home) (slot : SlotLog) : Type 0 where
+  pub own : IsSlot home slot.source slot.session slot.stream slot.log
+  pub whole : IfSome slot.log (λ (held : HeldLog). HasWhole held.log)
 
 -- how many messages the log that is open has taken
 abbrev pub messages_in : Option HeldLog → ℕ

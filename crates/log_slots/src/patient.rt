@@ -17,7 +17,7 @@ const LONGEST: u32 = 256;
 pub fn rest(steps: u32) {
     let own = AtomicU64::new(0);
     for _ in 0..steps {
-        own.fetch_add(1, Ordering::Relaxed);
+        own.fetch_add(1, Ordering::SeqCst);
     }
 }
 

@@ -9,7 +9,7 @@ use Rattle.driver_core.specs.declared.state.event.Event.TheVariants.{Attach, Com
 use Rattle.driver_core.specs.State.{State, at_moment}
 use Rattle.log_steps.specs.Held.{HeldLog}
 use Rattle.log_arena.specs.Homes.{Home}
-use Rattle.log_slots.specs.Slots.{IsSlot, SlotLog, is_silent_by, log_of, reach_by, with_log, with_readers, without_log}
+use Rattle.log_slots.specs.Slots.{IsLocked, SlotLog, is_silent_by, log_of, reach_by, with_log, with_readers, without_log}
 use Rattle.media_agents.specs.declared.slots.LogAt.{LogAt}
 use Rattle.media_agents.specs.Acts.{Access, Chain, GoesOn, held}
 use Rattle.media_agents.specs.Asking.{AreSilent, AreSilentAt, Asks, Closes, Gathers, IsHold, Joins, JoinsSome, LeavesIt, Opens, Refuses, Rejoins, SaysSilent, SilenceOf, SilenceOfKind}
@@ -149,7 +149,7 @@ none_there : (source : ℕ) → log_of source nowhere ≡ None
 none_there source = none_of (0 == source)
 
 stays : (home : Home) (left : SlotLog) → left ≡ nowhere → IsHold home nowhere left
-stays home left is = subst (λ (there : SlotLog). IsHold home nowhere there) (sym is) (record { found_is = tt; left_is = tt })
+stays home left is = subst (λ (there : SlotLog). IsHold home nowhere there) (sym is) (record { found_is = record { own = tt; whole = tt }; left_is = record { own = tt; whole = tt } })
 
 pub nowhere_rejoins : (home : Home) (source : ℕ) (subscriptions : List ℕ) (position : Option ℕ) → position ≡ None →
     Rejoins (λ found left. IsHold home found left) source subscriptions position
@@ -179,7 +179,7 @@ nowhere_refuses home log back is = record { found = nowhere; held = stays home n
 -- ---- a log opens in a slot, or comes back
 
 abbrev AreSlot : Home → SlotLog → Type 0
-AreSlot home slot = IsSlot home slot.source slot.session slot.stream slot.log
+AreSlot home slot = IsLocked home slot
 
 pub opens_in : (home : Home) (session stream session' stream' : ℤ) (log : HeldLog) (result : Result Unit HeldLog) (old new : SlotLog) →
     session' ≡ session → stream' ≡ stream → AreSlot home old → AreSlot home new →

@@ -8,7 +8,7 @@ use Rattle.log_steps.specs.Moves.{Move, WholeLog}
 use Rattle.log_steps.specs.Packets.{packet_move}
 use Rattle.frame_codec.specs.Datagram.{Content}
 use Rattle.log_arena.specs.Homes.{Home}
-use Rattle.log_slots.specs.Slots.{DecidesHeard, GivesHeard, Hears, IsSlot, Moves, SlotLog, packet_decision}
+use Rattle.log_slots.specs.Slots.{DecidesHeard, GivesHeard, Hears, IsLocked, Moves, SlotLog, packet_decision}
 use Rattle.media_agents.specs.Asking.{IsHold}
 use Rattle.media_agents.specs.declared.stepping.Stepped.{Stepped}
 use Rattle.media_agents.specs.Stepping.{Comes, Lacks, Turns}
@@ -25,7 +25,7 @@ pub none_holds : {X : Type 0} (P : Type 0) (it : Option X) → IfNone it P → i
 none_holds P it holds is = subst (λ (it : Option _). IfNone it P) is holds
 
 abbrev Own : Home → SlotLog → Type 0
-Own home slot = IsSlot home slot.source slot.session slot.stream slot.log
+Own home slot = IsLocked home slot
 
 module _ (home : Home) (old new : SlotLog) where
   pub is_hold : new ≡ record old { log = new.log } → Own home old → Own home new → IsHold home old (record old { log = new.log })

@@ -10,7 +10,7 @@ use Rattle.driver_core.specs.Renewal.{source_at}
 use Rattle.driver_core.specs.State.{State, at_moment}
 use Rattle.log_steps.specs.Held.{HeldLog}
 use Rattle.log_arena.specs.Homes.{Home}
-use Rattle.log_slots.specs.Slots.{IsSlot, SlotLog, is_silent_in, log_of, reach_in, with_log, with_readers, without_log}
+use Rattle.log_slots.specs.Slots.{IsLocked, SlotLog, is_silent_in, log_of, reach_in, with_log, with_readers, without_log}
 use Rattle.media_agents.specs.Acts.{Access, Chain, held}
 use Rattle.media_agents.specs.declared.slots.LogAt.{LogAt}
 use Rattle.media_agents.specs.Finding.{log_at}
@@ -19,10 +19,10 @@ use Rattle.stream_registry.specs.declared.lingering.LogPlace.{LogPlace}
 use Rattle.stream_registry.specs.declared.row.LogRow.{LogRow}
 use Rattle.stream_registry.specs.Origins.{is_published}
 
--- a hold of a lock may have found this in the slot, and left that: both are slots of that region
+-- a hold of a lock may have found this in the slot, and left that
 pub record IsHold (home : Home) (found left : SlotLog) : Type 0 where
-  pub found_is : IsSlot home found.source found.session found.stream found.log
-  pub left_is : IsSlot home left.source left.session left.stream left.log
+  pub found_is : IsLocked home found
+  pub left_is : IsLocked home left
 
 -- ---- one hold, where `Held found left` says that a hold found this and left that
 

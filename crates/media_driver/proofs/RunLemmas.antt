@@ -5,7 +5,7 @@ use Rattle.audit_ring.specs.Audit.{KeptOf}
 use Rattle.log_slots.specs.Counting.{taken_by}
 use Rattle.log_steps.specs.declared.answer.Answer.TheVariants.{Offered as OfferedAs}
 use Rattle.log_steps.specs.declared.answer.Offered.TheVariants.{Closed as IsClosed}
-use Rattle.log_slots.specs.Slots.{DecidesIn, Moves, SlotLog}
+use Rattle.log_slots.specs.Slots.{DecidesIn, IsLocked, Moves, SlotLog}
 use Rattle.log_steps.specs.declared.answered.Answered.{Answered}
 use Rattle.log_steps.specs.Decided.{offer_decision, offer_decision_by}
 use Rattle.log_steps.specs.Held.{HeldLog}
@@ -22,7 +22,7 @@ use Rattle.media_driver.specs.Audits.{KeepsOffered, ReportsOffer}
 use Rattle.media_driver.specs.Clients.{Attached, Looks}
 use Rattle.media_driver.specs.Remembering.{IsSaid}
 use Rattle.media_driver.specs.Runs.{Ends, IsOffered, Offers, OffersNone, OffersOn, Taken, with_offer}
-use Rattle.media_driver.specs.Steps.{Counts, IsLocked, IsOffer, IsStep, offer_answer}
+use Rattle.media_driver.specs.Steps.{Counts, IsOffer, IsStep, offer_answer}
 use Rattle.media_driver.specs.declared.faults.OfferFault.{OfferFault}
 use Rattle.media_driver.specs.declared.faults.OfferFault.TheVariants.{Closed, NoLook}
 use Rattle.media_driver.specs.declared.remembering.Said.{Said}

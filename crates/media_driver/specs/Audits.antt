@@ -12,11 +12,11 @@ use Rattle.log_steps.specs.Held.{HeldLog}
 use Rattle.log_steps.specs.Moves.{Move, WholeLog, offer_move}
 use Rattle.log_arena.specs.Homes.{Home}
 use Rattle.log_pairs.specs.Polling.{Fetched}
-use Rattle.log_slots.specs.Slots.{DecidesIn, Moves, SlotLog}
+use Rattle.log_slots.specs.Slots.{DecidesIn, IsLocked, Moves, SlotLog}
 use Rattle.media_agents.specs.declared.journal.Dated.{Dated}
 use Rattle.media_agents.specs.declared.journal.Stamp.{Stamp}
 use Rattle.media_agents.specs.Journals.{audited_all, audited_if, stamp_of}
-use Rattle.media_driver.specs.Steps.{IsLocked, offer_answer, poll_answer, poll_of}
+use Rattle.media_driver.specs.Steps.{offer_answer, poll_answer, poll_of}
 use Rattle.media_driver.specs.declared.faults.LookFault.{LookFault}
 use Rattle.media_driver.specs.declared.faults.OfferFault.{OfferFault}
 use Rattle.media_driver.specs.declared.faults.OfferFault.TheVariants as offers

@@ -8,12 +8,11 @@ use Rattle.driver_core.specs.State.{State}
 use Rattle.log_arena.specs.Homes.{Home}
 use Rattle.log_slots.specs.Counting.{SlotCount}
 use Rattle.log_slots.specs.Positions.{positions_in, reading_in}
-use Rattle.log_slots.specs.Slots.{SlotLog}
+use Rattle.log_slots.specs.Slots.{IsLocked, SlotLog}
 use Rattle.log_slots.specs.declared.positions.PublicationPositions.{PublicationPositions}
 use Rattle.log_slots.specs.declared.positions.ReadingPositions.{ReadingPositions}
 use Rattle.media_agents.specs.Finding.{log_at}
 use Rattle.media_agents.specs.declared.slots.LogAt.{LogAt}
-use Rattle.media_driver.specs.Steps.{IsLocked}
 use Rattle.media_driver.specs.declared.faults.PositionFault.{PositionFault}
 use Rattle.media_driver.specs.declared.faults.PositionFault.TheVariants.{Closed, NoLook}
 use Rattle.media_driver.specs.declared.positions.ImagePositions.{ImagePositions}

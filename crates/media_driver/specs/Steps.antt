@@ -10,19 +10,12 @@ use Rattle.log_steps.specs.Held.{HeldLog}
 use Rattle.log_steps.specs.Moves.{Move, WholeLog, for_source, offer_move, poll_move}
 use Rattle.log_arena.specs.Homes.{Home}
 use Rattle.log_pairs.specs.Polling.{Fetched}
-use Rattle.log_slots.specs.Slots.{GivesIn, IsSlot, Moves, SlotLog}
-use Rattle.log_traffic.specs.Whole.{HasWhole}
+use Rattle.log_slots.specs.Slots.{GivesIn, IsLocked, Moves, SlotLog}
 use Rattle.media_driver.specs.Clients.{Attached}
 use Rattle.media_driver.specs.declared.faults.OfferFault.{OfferFault}
 use Rattle.media_driver.specs.declared.faults.OfferFault.TheVariants as offers
 use Rattle.media_driver.specs.declared.faults.PollFault.{PollFault}
 use Rattle.media_driver.specs.declared.faults.PollFault.TheVariants as polls
-
--- a lock may guard this: a log that is open lies in that region, is made for what the slot says, and stands for a whole
--- log
-pub record IsLocked (home : Home) (slot : SlotLog) : Type 0 where
-  pub own : IsSlot home slot.source slot.session slot.stream slot.log
-  pub whole : IfSome slot.log (λ (held : HeldLog). HasWhole held.log)
 
 -- the log that a lock guards moved so, and that is the answer; where none was open, it is the one for that
 pub record IsStep (home : Home) (move : WholeLog → Move) (absent answer : Answer) : Type 0 where

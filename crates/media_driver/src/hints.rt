@@ -26,20 +26,20 @@ impl Hint {
 
     /// Offers got to a position. It is written only where it is wanted: else the line stays with who reads it.
     pub(crate) fn offered(&self, position: u64) {
-        if self.wanted.load(Ordering::Relaxed) <= position {
-            self.offered.store(position, Ordering::Relaxed);
+        if self.wanted.load(Ordering::SeqCst) <= position {
+            self.offered.store(position, Ordering::SeqCst);
         }
     }
 
     /// A client that polls wants to know once offers get to a position.
     pub(crate) fn want(&self, position: u64) {
-        self.wanted.store(position, Ordering::Relaxed);
+        self.wanted.store(position, Ordering::SeqCst);
     }
 
     /// Waits until offers got to a position, for so many steps of [`rest`] at most. How many it waited.
     pub(crate) fn wait(&self, position: u64, most: u32) -> u32 {
         for step in 0..most {
-            if position <= self.offered.load(Ordering::Relaxed) {
+            if position <= self.offered.load(Ordering::SeqCst) {
                 return step;
             }
             rest(1);
@@ -49,9 +49,9 @@ impl Hint {
 
     /// Waits until offers get further than they did, for so many steps at most. Whether they did.
     pub(crate) fn moves(&self, most: u32) -> bool {
-        let before = self.offered.load(Ordering::Relaxed);
+        let before = self.offered.load(Ordering::SeqCst);
         for _ in 0..most {
-            if self.offered.load(Ordering::Relaxed) != before {
+            if self.offered.load(Ordering::SeqCst) != before {
                 return true;
             }
             rest(1);

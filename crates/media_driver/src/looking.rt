@@ -4,7 +4,7 @@ ghost use Rattle.driver_core.specs.LeftOut.{left_out};
 ghost use Rattle.driver_core.specs.Listing.{list, value};
 ghost use Rattle.media_agents.specs.Journals.{stamp_of};
 ghost use Rattle.media_driver.specs.Audits.{ReportsList, ReportsValue};
-ghost use Rattle.media_driver.specs.Clients.{Consults, IsUnseen};
+ghost use Rattle.media_driver.specs.Clients.{Consults, IsUnseen, Looks};
 ghost use Rattle.media_driver.specs.declared.faults.LookFault.TheVariants.{NoLook};
 ghost use Rattle.published_registry.specs.Histories.{IsContinuedBy, registry_of};
 ghost use Rattle.std.specs.Prelude.{◌≡◌, IfErr, IfNone, IfOk, IfSome};
@@ -72,6 +72,21 @@ fn shown(pass: Pass, client: u64, number: u64) -> (Pass, Option<(Shown, Stamp)>)
     }
 }
 
+/// Whether the driver was ended, by one look.
+fn ended(pass: Pass) -> (Pass, Option<bool>)
+    ensures known { IsContinuedBy pass result.0 }
+    ensures none { IfNone result.1 (result.0 ≡ pass) }
+    ensures ended { IfSome result.1 (λ ended. ended ≡ (registry_of result.0).stopped) }
+{
+    match pass.enter() {
+        Ok(look) => {
+            let ended = look.registry().is_stopped();
+            (look.leave(), Some(ended))
+        }
+        Err(pass) => (pass, None),
+    }
+}
+
 impl<N: DriverNaming, C: Clock> Client<N, C> {
     /// The counters that the client may see, by their numbers, as the registry says that the client sees now. By which decisions
     /// the others are left out is kept in its audit. It waits for nobody.
@@ -130,6 +145,28 @@ impl<N: DriverNaming, C: Clock> Client<N, C> {
                 tell(&mut self.audit, stamp, denial_of(&shown));
                 Ok(shown)
             }
+            None => Err(LookFault::NoLook),
+        }
+    }
+
+    /// Whether the driver was ended, as the registry says that the client sees now: a client to which the policy allowed it did
+    /// that. It waits for nobody, and takes no memory.
+    ///
+    /// # Errors
+    /// `NoLook`, with nothing changed.
+    pub fn is_driver_ended(&mut self) -> Result<bool, LookFault>
+        ensures looks { Looks self.old self.new }
+        ensures ended { IfOk result (λ ended. ended ≡ (registry_of self.new.known).stopped) }
+        ensures fault { IfErr result (λ fault. (fault ≡ NoLook) × (self.new ≡ self.old)) }
+    {
+        caches_stay_right_of_later_looks();
+        let Some(pass) = self.pass.take() else {
+            unreachable!()
+        };
+        let (pass, ended) = ended(pass);
+        self.pass = Some(pass);
+        match ended {
+            Some(ended) => Ok(ended),
             None => Err(LookFault::NoLook),
         }
     }

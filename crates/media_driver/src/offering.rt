@@ -17,6 +17,7 @@ use crate::auditing::tell;
 use crate::client::Client;
 use crate::faults::OfferFault;
 use crate::hints::Hints;
+use crate::pacing::Pace;
 use crate::remembering::{Said, said_now};
 use audit_ring::AuditOf;
 use channel_uri::Media;
@@ -202,6 +203,15 @@ fn tell_readers(hints: &Hints, log: Found, reached: u64) {
     }
 }
 
+/// A client that polls the log to which it just offered waits for no others there: its own offers are in it.
+fn expect_own(pace: &mut Pace, polled: Option<LogAt>, offered: LogAt) {
+    if let Some(at) = polled {
+        if at.published && at.slot == offered.slot {
+            *pace = Pace::new();
+        }
+    }
+}
+
 /// One message, and the position after it once it was taken.
 #[derive(Drop)]
 struct One<'a> {
@@ -315,6 +325,7 @@ impl<N: DriverNaming, C: Clock> Client<N, C> {
         self.pass = Some(pass);
         self.moment = now;
         tell_readers(&self.hints, log, reached);
+        expect_own(&mut self.pace, self.polled, log.at);
         if !log.is_shared {
             // what it took is to be sent
             self.queue.wake_sender();

@@ -10,44 +10,27 @@ use policy_text::PolicyFault;
 use policy_tools::Directory;
 use std::alloc::{AllocError, Global};
 
-/// Where a policy's text stands.
+/// Where a policy's text stands: in a file, which may be read with a file of names.
 #[derive(Clone, Copy, Debug)]
-pub enum Origin<'a> {
-    /// In a file of its own, which may be read with a file of names.
-    File {
-        path: &'a str,
-        names: Option<&'a str>,
-    },
-    /// In a script, after the line of this number.
-    Script {
-        path: &'a str,
-        line: u64,
-    },
+pub struct Origin<'a> {
+    pub path: &'a str,
+    pub names: Option<&'a str>,
 }
 
 impl Origin<'_> {
     /// Appends where a part of the text stands.
     fn push_place(&self, text: &mut String, place: Place) -> Result<(), AllocError> {
+        let path = self.path;
         let Place { line, column } = place;
-        match self {
-            Origin::File { path, .. } => write!(text, "{path}:{line}:{column}"),
-            Origin::Script { path, line: before } => {
-                let line = before.saturating_add(line as u64);
-                write!(text, "{path}:{line}:{column}")
-            }
-        }
+        write!(text, "{path}:{line}:{column}")
     }
 
-    /// Appends where to see so many faults more.
-    fn push_more(&self, text: &mut String, more: usize) -> Result<(), AllocError> {
-        match self {
-            _ if more == 0 => Ok(()),
-            Origin::File { path, names: None } => write!(text, "; see: aeron_policyd lint {path}"),
-            Origin::File {
-                path,
-                names: Some(names),
-            } => write!(text, "; see: aeron_policyd lint --names {names} {path}"),
-            Origin::Script { .. } => write!(text, "; and {more} more"),
+    /// Appends where to see the other faults.
+    fn push_more(&self, text: &mut String) -> Result<(), AllocError> {
+        let path = self.path;
+        match self.names {
+            None => write!(text, "; see: aeron_policyd lint {path}"),
+            Some(names) => write!(text, "; see: aeron_policyd lint --names {names} {path}"),
         }
     }
 }
@@ -73,7 +56,9 @@ fn said(alloc: Global, faults: &[Fault], origin: Origin<'_>) -> Result<Text, All
         text.push_str(": ")?;
         push_plain(&mut text, format!(in alloc; "{fault}")?.as_str())?;
     }
-    origin.push_more(&mut text, faults.len().saturating_sub(1))?;
+    if faults.len() > 1 {
+        origin.push_more(&mut text)?;
+    }
     Ok(Text::from(text))
 }
 

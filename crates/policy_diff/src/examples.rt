@@ -1,5 +1,7 @@
 use crate::pairs::Deciders;
-use crate::requests::{ENDS, Written, channel_over, has_beginning, medium_of};
+use crate::requests::{
+    Completion, ENDS, MODES, Written, channel_over, has_beginning, has_mode, medium_of,
+};
 use channel_uri::{Channel, Media};
 use policy_core::{Act, Rule};
 use policy_tools::WrittenPolicy;
@@ -36,11 +38,12 @@ pub(crate) fn written_at(source: &WrittenPolicy, decider: Option<usize>) -> Opti
 }
 
 /// Adds the channels over a medium that have the values of both patterns; where a value is a beginning, with several ends.
-fn push_over(
+fn push_in_mode(
     alloc: Global,
     media: Media,
     one: Option<Written<'_>>,
     other: Option<Written<'_>>,
+    mode: &'static str,
     channels: &mut Vec<Channel>,
 ) -> Result<(), AllocError> {
     let ends = if has_beginning(one) || has_beginning(other) {
@@ -49,9 +52,29 @@ fn push_over(
         &ENDS[..1]
     };
     for end in ends {
-        if let Some(channel) = channel_over(alloc, media, one, other, end)? {
+        let by = Completion { mode, end: *end };
+        if let Some(channel) = channel_over(alloc, media, one, other, by)? {
             channels.push(channel)?;
         }
+    }
+    Ok(())
+}
+
+/// The same in each mode in which their destinations may come, where a pattern speaks of it.
+fn push_over(
+    alloc: Global,
+    media: Media,
+    one: Option<Written<'_>>,
+    other: Option<Written<'_>>,
+    channels: &mut Vec<Channel>,
+) -> Result<(), AllocError> {
+    let modes = if has_mode(one) || has_mode(other) {
+        &MODES[..]
+    } else {
+        &MODES[..1]
+    };
+    for mode in modes {
+        push_in_mode(alloc, media, one, other, *mode, channels)?;
     }
     Ok(())
 }

@@ -22,6 +22,21 @@ pub(crate) const ENDS: [&str; 11] = [
     "0:1",
 ];
 
+/// The values of `control-mode` that a channel may have.
+pub(crate) const MODES: [&str; 2] = ["manual", "dynamic"];
+
+/// The key that has these values alone.
+const CONTROL_MODE: &str = "control-mode";
+
+/// What completes values of which only the beginning is said.
+#[derive(Clone, Copy)]
+pub(crate) struct Completion {
+    /// Of `control-mode`, the whole value.
+    pub(crate) mode: &'static str,
+    /// Of any other key, what stands after the beginning.
+    pub(crate) end: &'static str,
+}
+
 /// A pattern with its text.
 #[derive(Clone, Copy)]
 pub(crate) struct Written<'a> {
@@ -53,6 +68,14 @@ pub(crate) fn has_beginning(written: Option<Written<'_>>) -> bool {
     }
 }
 
+/// Whether the pattern wants a `control-mode` of which only the beginning is said.
+pub(crate) fn has_mode(written: Option<Written<'_>>) -> bool {
+    match wanted_of(written, CONTROL_MODE) {
+        Some(wanted) => wanted.ends_with('*'),
+        None => false,
+    }
+}
+
 /// The value that a pattern wants of a key.
 fn wanted_of<'a>(written: Option<Written<'a>>, key: &str) -> Option<&'a str> {
     match written?.pattern {
@@ -73,14 +96,16 @@ fn narrower<'a>(one: &'a str, other: Option<&'a str>) -> &'a str {
     }
 }
 
-/// Adds a key with a value that fits what is wanted: a beginning is completed by `end`.
-fn push_pair(text: &mut String, key: &str, wanted: &str, end: &str) -> Result<(), AllocError> {
+/// Adds a key with a value that fits what is wanted, where a beginning is completed so.
+fn push_pair(text: &mut String, key: &str, wanted: &str, by: Completion) -> Result<(), AllocError> {
+    let Completion { mode, end } = by;
     let mark = if text.as_str().contains('?') {
         "|"
     } else {
         "?"
     };
     match wanted.strip_suffix("*") {
+        Some(_) if key == CONTROL_MODE => write!(text, "{mark}{key}={mode}"),
         Some(front) => write!(text, "{mark}{key}={front}{end}"),
         None => write!(text, "{mark}{key}={wanted}"),
     }
@@ -91,7 +116,7 @@ fn push_keys(
     text: &mut String,
     written: Option<Written<'_>>,
     other: Option<Written<'_>>,
-    end: &str,
+    by: Completion,
 ) -> Result<(), AllocError> {
     let Some(own) = written else {
         return Ok(());
@@ -103,28 +128,28 @@ fn push_keys(
         let key = key_of(piece);
         if let Some(wanted) = wanted_of(written, key) {
             let wanted = narrower(wanted, wanted_of(other, key));
-            push_pair(text, key, wanted, end)?;
+            push_pair(text, key, wanted, by)?;
         }
     }
     Ok(())
 }
 
-/// The channel over that medium with the keys of both patterns, of which a beginning is completed by `end`; `None` where
-/// that is no channel.
+/// The channel over that medium with the keys of both patterns, where a beginning is completed so; `None` where that is no
+/// channel.
 pub(crate) fn channel_over(
     alloc: Global,
     media: Media,
     one: Option<Written<'_>>,
     other: Option<Written<'_>>,
-    end: &str,
+    by: Completion,
 ) -> Result<Option<Channel>, AllocError> {
     if media == Media::Counter {
         return Ok(Some(Channel::counter()));
     }
     let word = media.name();
     let mut text = format!(in alloc; "aeron:{word}")?;
-    push_keys(&mut text, one, other, end)?;
-    push_keys(&mut text, other, one, end)?;
+    push_keys(&mut text, one, other, by)?;
+    push_keys(&mut text, other, one, by)?;
     match Channel::parse(text.as_str()) {
         Ok(channel) => Ok(Some(channel)),
         Err(_) => Ok(None),

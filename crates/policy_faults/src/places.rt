@@ -1,5 +1,5 @@
-use byte_strings::Text;
 use std::alloc::{AllocError, Global};
+use std::collections::BTreeMap;
 use std::fmt;
 
 /// A place in a text. Both numbers count from 1; a column counts characters.
@@ -116,25 +116,30 @@ impl Open {
     }
 }
 
-/// Where a key stands.
-#[derive(Drop)]
-struct KeyPlace {
-    /// The number of its rule; 0 for the document, and `None` in a table that is no rule.
-    rule: Option<usize>,
-    key: Text,
-    place: Place,
-}
+/// Where the keys of a table stand: of one that stands there twice, where it is first.
+type Keys = BTreeMap<String, Place>;
 
 /// Where the rules of a policy and their keys stand in its text.
 #[derive(Drop)]
 pub struct Places {
     /// The headers `[[rule]]`.
     rules: Vec<Place>,
-    keys: Vec<KeyPlace>,
+    /// The keys of the document.
+    document: Keys,
+    /// Those of each rule.
+    of_rules: Vec<Keys>,
     /// The headers `[rule]`, of which none is one of a rule.
     tables: Vec<Place>,
-    /// Whose keys come next.
+    /// Whose keys come next: a rule's, counted from 1, or the document's for 0, or those of a table that is no rule for `None`.
     of: Option<usize>,
+}
+
+/// A key stands there, unless it stands somewhere before.
+fn note(alloc: Global, keys: &mut Keys, key: &str, place: Place) -> Result<(), AllocError> {
+    if keys.get(key).is_none() {
+        keys.insert(String::from_str(alloc, key)?, place)?;
+    }
+    Ok(())
 }
 
 /// The key in a text, without blanks and quotes around it.
@@ -168,10 +173,31 @@ impl Places {
     fn new(alloc: Global) -> Places {
         Places {
             rules: Vec::new(alloc),
-            keys: Vec::new(alloc),
+            document: BTreeMap::new(alloc),
+            of_rules: Vec::new(alloc),
             tables: Vec::new(alloc),
             of: Some(0),
         }
+    }
+
+    /// Takes a key of the table whose keys come.
+    fn take_key(&mut self, alloc: Global, key: &str, place: Place) -> Result<(), AllocError> {
+        match self.of {
+            None => Ok(()),
+            Some(0) => note(alloc, &mut self.document, key, place),
+            Some(_) => match self.of_rules.last_mut() {
+                Some(keys) => note(alloc, keys, key, place),
+                None => Ok(()),
+            },
+        }
+    }
+
+    /// Takes the header of a rule.
+    fn take_rule(&mut self, alloc: Global, place: Place) -> Result<(), AllocError> {
+        self.rules.push(place)?;
+        self.of_rules.push(BTreeMap::new(alloc))?;
+        self.of = Some(self.rules.len());
+        Ok(())
     }
 
     /// Takes what stands before a `=`, or a header.
@@ -181,47 +207,28 @@ impl Places {
             return Ok(());
         }
         if !head.starts_with("[") {
-            self.keys.push(KeyPlace {
-                rule: self.of,
-                key: Text::new(alloc, key_in(head))?,
-                place,
-            })?;
-            return Ok(());
+            return self.take_key(alloc, key_in(head), place);
         }
         self.of = None;
         if let Some(key) = table_in(head) {
             if key == "rule" {
                 self.tables.push(place)?;
             }
-            self.keys.push(KeyPlace {
-                rule: Some(0),
-                key: Text::new(alloc, key)?,
-                place,
-            })?;
+            note(alloc, &mut self.document, key, place)?;
         }
         match array_in(head) {
-            Some("rule") => {
-                self.rules.push(place)?;
-                self.of = Some(self.rules.len());
-            }
-            Some(key) => self.keys.push(KeyPlace {
-                rule: Some(0),
-                key: Text::new(alloc, key)?,
-                place,
-            })?,
-            None => {}
+            Some("rule") => self.take_rule(alloc, place),
+            Some(key) => note(alloc, &mut self.document, key, place),
+            None => Ok(()),
         }
-        Ok(())
     }
 
     /// The place of a key of a rule, counted from 1; of one of the document for 0.
     fn key(&self, rule: usize, key: &str) -> Option<Place> {
-        for stands in &self.keys {
-            if stands.rule == Some(rule) && stands.key.as_str() == key {
-                return Some(stands.place);
-            }
+        if rule == 0 {
+            return self.document.get(key).copied();
         }
-        None
+        self.of_rules.get(rule.checked_sub(1)?)?.get(key).copied()
     }
 
     /// Whether a header `[[rule]]` or `[rule]` is at this place, in a text that has one of the second kind.

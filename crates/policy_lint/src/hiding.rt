@@ -226,7 +226,7 @@ fn candidates(
     Ok(places)
 }
 
-/// Takes the places whose rules are needed for an act, in the same order.
+/// Takes the places whose rules are needed for an act.
 fn put_needed(
     needed: &mut Vec<usize>,
     rules: &[Rule],
@@ -247,7 +247,18 @@ fn put_needed(
     Ok(())
 }
 
-/// Those of the places whose rules are needed to hide the one at `at`.
+/// Those of the places that are among the needed ones, in the same order.
+fn in_order(alloc: Global, places: &[usize], needed: &[usize]) -> Result<Vec<usize>, AllocError> {
+    let mut ordered = Vec::new(alloc);
+    for place in places {
+        if needed.contains(place) {
+            ordered.push(*place)?;
+        }
+    }
+    Ok(ordered)
+}
+
+/// Those of the places whose rules are needed to hide the one at `at`, in the same order.
 fn needed(
     alloc: Global,
     rules: &[Rule],
@@ -263,7 +274,7 @@ fn needed(
             put_needed(&mut needed, rules, places, act, (rule.low, rule.high))?;
         }
     }
-    Ok(needed)
+    in_order(alloc, places, needed.as_slice())
 }
 
 /// The places of rules that are likely to hide the one at `at` together; none where none are found.

@@ -4,7 +4,6 @@ use Rattle.std.specs.Fmt.{decimal}
 use Rattle.std.specs.Str.{bytes_eq}
 use Rattle.channel_uri.specs.declared.error.UriError.{UriError}
 use Rattle.channel_uri.specs.Channel.{Shape, counter_shape, denotes}
-use Rattle.channel_uri.specs.Fault.{fault_text as channel_fault_text}
 use Rattle.policy_core.specs.declared.verdict.Verdict.{Verdict}
 use Rattle.policy_core.specs.Act.{act_named}
 use Rattle.policy_core.specs.Moments.{at}
@@ -82,7 +81,7 @@ abbrev pub fault_text : DecideFault → List ℕ
 fault_text (Policy fault) = policy_fault_text fault
 fault_text UnknownPrincipal = codes "unknown principal"
 fault_text UnknownAct = codes "unknown act"
-fault_text (InvalidChannel error) = codes "invalid channel: " ++ channel_fault_text error
+fault_text (InvalidChannel error) = codes "invalid channel"
 fault_text NoMemory = codes "no memory"
 
 -- the meaning is this fault; out of memory says nothing of it

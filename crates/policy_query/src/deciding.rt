@@ -60,7 +60,7 @@ impl fmt::Display for DecideFault {
             DecideFault::Policy(fault) => write!(f, "{fault}"),
             DecideFault::UnknownPrincipal => f.write_str("unknown principal"),
             DecideFault::UnknownAct => f.write_str("unknown act"),
-            DecideFault::InvalidChannel(error) => write!(f, "invalid channel: {error}"),
+            DecideFault::InvalidChannel(_) => f.write_str("invalid channel"),
             DecideFault::NoMemory => f.write_str("no memory"),
         }
     }

@@ -1,5 +1,6 @@
 mod AlikeLemmas
 mod CaseLemmas
+mod DirectoryLemmas
 pub mod ExplainingLemmas
 pub mod KeyLemmas
 pub mod PatternLemmas

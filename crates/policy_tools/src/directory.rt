@@ -1,11 +1,14 @@
+ghost use Rattle.door_names.specs.Names.{is_name};
 ghost use Rattle.policy_query.specs.Deciding.{principals, principals_to};
 ghost use Rattle.policy_text.specs.Names.{number_of};
 ghost use Rattle.policy_tools.specs.CaseLines.{is_blank};
-ghost use Rattle.policy_tools.specs.Directory.{first_of, name_of};
-ghost use Rattle.std.specs.Prelude.{◌≡◌, ◌++◌, ◌∷◌, [], IfOk, option_copied};
+ghost use Rattle.policy_tools.specs.Directory.{AreNames, first_of, name_of};
+ghost use Rattle.std.specs.Prelude.{◌≡◌, ◌++◌, ◌∷◌, [], IfOk, IfSome, option_copied, true};
 
 use crate::wider::begins_with;
+use crate::words::plain;
 use byte_strings::Text;
+use door_names::is_name;
 use policy_text::Names;
 use std::alloc::{AllocError, Global};
 use std::marker::Model;
@@ -30,11 +33,14 @@ impl Model for Directory {
 }
 
 /// Why a file gives no names.
-#[derive(Clone, Copy, Debug, PartialEq, Eq)]
+#[derive(Drop)]
 pub enum NamesFault {
     /// This line, counted from 1, is none of `principal NAME NUMBER`, of a comment, and of nothing; or its name was given
     /// before.
     BadLine(u32),
+    /// The name of this line could be no file of that name in a folder: this one, with what is no printable ASCII written by
+    /// its code point.
+    BadName(u32, Text),
     /// The file is not UTF-8.
     NotText,
     /// There is no memory for the names.
@@ -115,14 +121,17 @@ impl Directory {
     /// those that begin with `#`, say nothing.
     ///
     /// # Errors
-    /// The first line that is none of these.
-    pub fn read(alloc: Global, bytes: &[u8]) -> Result<Directory, NamesFault> {
+    /// The first line that is none of these, or whose name is none of a door.
+    #[tactic(auto, using(crate::proofs::DirectoryLemmas::names_with))]
+    pub fn read(alloc: Global, bytes: &[u8]) -> Result<Directory, NamesFault>
+        ensures { IfOk result AreNames }
+    {
         let Ok(text) = str::from_utf8(bytes) else {
             return Err(NamesFault::NotText);
         };
         let mut directory = Directory::new(alloc);
         let mut number: u32 = 0;
-        for line in text.lines() {
+        'lines: for line in text.lines() {
             number = number.saturating_add(1);
             if is_blank(line) {
                 continue;
@@ -130,6 +139,9 @@ impl Directory {
             let Some((name, principal)) = directory.new_name(line) else {
                 return Err(NamesFault::BadLine(number));
             };
+            if !is_name(name) {
+                return Err(NamesFault::BadName(number, plain(alloc, name)?));
+            }
             directory = directory.with(alloc, Text::new(alloc, name)?, principal)?;
         }
         Ok(directory)

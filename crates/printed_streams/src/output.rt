@@ -13,7 +13,7 @@ use std::{io, thread};
 const AHEAD: usize = 4;
 
 /// How many bytes are written at once, at most.
-const PIECE: usize = 4_096;
+const PIECE: usize = 16_384;
 
 /// How far the writing thread is, and what wakes it.
 #[derive(Drop)]

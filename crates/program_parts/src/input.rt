@@ -6,6 +6,7 @@ use piped_messages::{Cut, LONGEST, first_message};
 use rtrb::{Consumer, Producer, PushError, RingBuffer};
 use std::alloc::{AllocError, Global};
 use std::io::Read;
+use std::mem::swap;
 use std::sync::{Arc, Wait};
 use std::thread;
 use std::thread::Parker;
@@ -87,6 +88,8 @@ pub struct Input {
     /// What was read and is not done with: from `at` on.
     bytes: Vec<u8>,
     at: usize,
+    /// Where what is left goes before more that comes. It and `bytes` change places, so that no bytes move within either.
+    spare: Vec<u8>,
     ended: bool,
 }
 
@@ -103,6 +106,7 @@ impl Input {
                 by,
                 bytes: Vec::new(rt.alloc()),
                 at: 0,
+                spare: Vec::new(rt.alloc()),
                 ended: false,
             }),
             Err(_) => Err(PartFault::NoThread),
@@ -135,15 +139,26 @@ impl Input {
         self.ended
     }
 
+    /// What is done with is let go.
+    fn settle(&mut self) -> Result<(), PartFault> {
+        if self.at == 0 {
+            return Ok(());
+        }
+        self.spare.clear();
+        let left = self.bytes.get(self.at..).unwrap_or(&[]);
+        self.spare.extend_from_slice(left)?;
+        swap(&mut self.bytes, &mut self.spare);
+        self.at = 0;
+        Ok(())
+    }
+
     /// More bytes come after those that are left.
     fn append(&mut self, more: &[u8]) -> Result<(), PartFault> {
         let left = self.left().len();
         if left > LONGEST {
             return Err(PartFault::TooLong);
         }
-        let from = self.at.min(self.bytes.len());
-        let _ = self.bytes.drain(..from);
-        self.at = 0;
+        self.settle()?;
         self.bytes.extend_from_slice(more)?;
         Ok(())
     }

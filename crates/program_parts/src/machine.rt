@@ -6,7 +6,7 @@ use std::rt::Files;
 use std::sync::Wait;
 use std::thread;
 use std::thread::{Parker, Threads};
-use std::time::{Clock, Duration};
+use std::time::{Clock, CpuClock, Duration};
 
 /// A second, in nanoseconds.
 pub const SECOND: u64 = 1_000_000_000;
@@ -33,6 +33,7 @@ pub trait Machine: Input<Reader = StdinLock<'static>>
     + Eprint
     + AllocGlobal
     + Clock
+    + CpuClock
     + Net<Listener = TcpListener, Stream = TcpStream>
     + Threads
     + Wait
@@ -48,6 +49,7 @@ impl<
         + Eprint
         + AllocGlobal
         + Clock
+        + CpuClock
         + Net<Listener = TcpListener, Stream = TcpStream>
         + Threads
         + Wait
@@ -67,10 +69,11 @@ pub fn ticks<C: Clock>(clock: &C) -> u64 {
     }
 }
 
-/// What the program takes of the machine for files, and for sockets that are files. No thread has it but the first.
-pub trait Disk: Files + Net + AllocGlobal + Copy + Drop {}
+/// What the program takes of the machine for files, and for sockets that are files. Beside the first thread the one has it that
+/// reads a policy again.
+pub trait Disk: Files + Net + AllocGlobal + Copy + Drop + Send + Sync + 'static {}
 
-impl<F: Files + Net + AllocGlobal + Copy + Drop> Disk for F {}
+impl<F: Files + Net + AllocGlobal + Copy + Drop + Send + Sync + 'static> Disk for F {}
 
 /// A line on standard error, which may be closed.
 pub fn report<R: Eprint>(rt: &R, line: &str) {

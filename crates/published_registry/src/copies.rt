@@ -123,8 +123,9 @@ impl Pending {
             shown,
             entry,
         } = self;
-        let board = show(rt, board, Step::Takes(entry, front.again()));
+        // Before any reader can see it: so whoever has seen it finds no pass at an earlier one to be at the newest.
         shown.store(front.count(), Ordering::SeqCst);
+        let board = show(rt, board, Step::Takes(entry, front.again()));
         let receipt = Receipt {
             front: front.again(),
         };

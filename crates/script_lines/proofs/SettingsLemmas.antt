@@ -13,7 +13,7 @@ use Rattle.driver_core.proofs.SizeLemmas.{Holds, IsMtu, IsTermLength, mtu_sound,
 use Rattle.script_lines.specs.declared.settings.Duration.{Duration as DurationKey}
 use Rattle.script_lines.specs.declared.settings.Duration.TheVariants.{ClientLiveness, ImageLiveness, Linger, ConnectionTimeout, DestinationTimeout, ResendLinger, NakDelay, NakRepeat, SetupInterval, HeartbeatInterval, StatusInterval}
 use Rattle.script_lines.specs.declared.settings.Key.{Key}
-use Rattle.script_lines.specs.declared.settings.Key.TheVariants.{Duration, TermLength, Mtu, ArenaPages, ImagesPerSource, FirstSession, InitialTerm, ReceiverId, SendAddress}
+use Rattle.script_lines.specs.declared.settings.Key.TheVariants.{Duration, TermLength, Mtu, ArenaPages, FirstSession, InitialTerm, ReceiverId, SendAddress}
 use Rattle.script_lines.specs.Hex.{◌>>=◌}
 use Rattle.script_lines.specs.Number.{number_of}
 use Rattle.script_lines.specs.Settings.{Chosen, chosen, duration_in, images_of, key_of, mtu_in, pages_of, term_length_in, with_duration, with_value}
@@ -29,6 +29,10 @@ holds_then : {A B : Type 0} (Q : A → Type 0) (P : B → Type 0) (read : Option
     ((x : A) → Q x → Holds P (next x)) → Holds P (read >>= next)
 holds_then Q P None next held each = tt
 holds_then Q P (Some x) next held each = each x held
+
+held : {A : Type 0} (P : A → Type 0) (read : Option A) (x : A) → read ≡ Some x → Holds P read → P x
+held P None x is h = cc
+held P (Some y) x is h = let same : y ≡ x = cc in rw (← same) h
 
 -- from 1 to a limit
 abbrev IsUpTo : ℕ → ℕ → Type 0
@@ -141,9 +145,6 @@ value_sound settings Mtu value sound =
 value_sound settings ArenaPages value sound =
     holds_then ArePages AreSettings (pages_of value) _ (pages_sound value)
     (λ pages is. sound_by _ (term_of settings sound) (mtu_of settings sound) is (images_in settings sound))
-value_sound settings ImagesPerSource value sound =
-    holds_then AreImages AreSettings (images_of value) _ (images_sound value)
-    (λ images is. sound_by _ (term_of settings sound) (mtu_of settings sound) (pages_in settings sound) is)
 value_sound settings FirstSession value sound =
     holds_next AreSettings (session_id_of value) _
     (λ id. sound_like settings _ sound refl refl refl refl)
@@ -157,6 +158,13 @@ value_sound settings SendAddress value sound =
     holds_next AreSettings (address_of value) _
     (λ address. sound_like settings _ sound refl refl refl refl)
 
+-- so many images of one source address
+pub images_chosen : (settings : Settings) (value : List ℕ) (images : ℕ) → AreSettings settings → images_of value ≡ Some images →
+    AreSettings (record settings { images_per_source = images })
+images_chosen settings value images sound is =
+    let few : AreImages images = held AreImages (images_of value) images is (images_sound value) in
+    sound_by _ (term_of settings sound) (mtu_of settings sound) (pages_in settings sound) few
+
 -- one choice more
 chosen_holds : (choices : Chosen) (name value : List ℕ) → AreSettings choices.settings →
     Holds AreSettings (chosen choices name value)
@@ -164,10 +172,6 @@ chosen_holds choices name value sound =
     cond_both (list_any (λ given. bytes_eq given name) choices.given) _ _ (Holds AreSettings)
     (λ given. tt)
     (λ new. holds_next AreSettings (key_of name) _ (λ key. value_sound choices.settings key value sound))
-
-held : {A : Type 0} (P : A → Type 0) (read : Option A) (x : A) → read ≡ Some x → Holds P read → P x
-held P None x is h = cc
-held P (Some y) x is h = let same : y ≡ x = cc in rw (← same) h
 
 pub chosen_sound : (choices : Chosen) (name value : List ℕ) (settings : Settings) → AreSettings choices.settings →
     chosen choices name value ≡ Some settings → AreSettings settings

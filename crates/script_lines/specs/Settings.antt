@@ -10,7 +10,7 @@ use Rattle.driver_core.specs.Settings.{default_settings}
 use Rattle.script_lines.specs.declared.settings.Duration.{Duration as DurationKey}
 use Rattle.script_lines.specs.declared.settings.Duration.TheVariants.{ClientLiveness, ImageLiveness, Linger, ConnectionTimeout, DestinationTimeout, ResendLinger, NakDelay, NakRepeat, SetupInterval, HeartbeatInterval, StatusInterval}
 use Rattle.script_lines.specs.declared.settings.Key.{Key}
-use Rattle.script_lines.specs.declared.settings.Key.TheVariants.{Duration, TermLength, Mtu, ArenaPages, ImagesPerSource, FirstSession, InitialTerm, ReceiverId, SendAddress}
+use Rattle.script_lines.specs.declared.settings.Key.TheVariants.{Duration, TermLength, Mtu, ArenaPages, FirstSession, InitialTerm, ReceiverId, SendAddress}
 use Rattle.script_lines.specs.Hex.{◌>>=◌}
 use Rattle.script_lines.specs.Number.{number_of}
 
@@ -31,7 +31,6 @@ keys =
     ∷ (codes "term-length", TermLength)
     ∷ (codes "mtu", Mtu)
     ∷ (codes "arena-pages", ArenaPages)
-    ∷ (codes "images-per-source", ImagesPerSource)
     ∷ (codes "first-session", FirstSession)
     ∷ (codes "initial-term", InitialTerm)
     ∷ (codes "receiver-id", ReceiverId)
@@ -86,7 +85,6 @@ with_value settings (Duration key) value = duration_in value >>= λ duration. So
 with_value settings TermLength value = term_length_in value >>= λ size. Some (record settings { term_length = size })
 with_value settings Mtu value = mtu_in value >>= λ size. Some (record settings { mtu = size })
 with_value settings ArenaPages value = pages_of value >>= λ pages. Some (record settings { arena_pages = pages })
-with_value settings ImagesPerSource value = images_of value >>= λ images. Some (record settings { images_per_source = images })
 with_value settings FirstSession value = session_id_of value >>= λ id. Some (record settings { first_session = id })
 with_value settings InitialTerm value = session_id_of value >>= λ id. Some (record settings { initial_term = id })
 with_value settings ReceiverId value = number_of value >>= λ id. Some (record settings { receiver_id = id })
@@ -115,6 +113,15 @@ choice given name (Some settings) = Some (record { settings = settings; given = 
 -- the choices after a line, unless it is bad
 unfoldable pub choose : Chosen → List ℕ → List ℕ → Option Chosen
 choose choices name value = choice choices.given name (chosen choices name value)
+
+-- the settings where one source address may have so many images, if the value is in its range; no script says so
+abbrev pub with_images : Settings → List ℕ → Option Settings
+with_images settings value = images_of value >>= λ images. Some (record settings { images_per_source = images })
+
+-- that bound was taken, and no key is given by it; or the value is none, and nothing was changed
+abbrev pub BoundsImages : Chosen → Chosen → List ℕ → Bool → Type 0
+BoundsImages old new value true = (with_images old.settings value ≡ Some new.settings) × (new.given ≡ old.given)
+BoundsImages old new value false = (with_images old.settings value ≡ None) × (new ≡ old)
 
 -- the choice was taken; or it is none, and nothing was changed
 abbrev pub Chooses : Chosen → Chosen → List ℕ → List ℕ → Bool → Type 0

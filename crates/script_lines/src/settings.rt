@@ -1,4 +1,4 @@
-ghost use Rattle.script_lines.specs.Settings.{Chooses, chosen, key_among, key_of, no_choices, duration_in, images_of, pages_of, mtu_in, term_length_in, with_duration, with_value};
+ghost use Rattle.script_lines.specs.Settings.{BoundsImages, Chooses, chosen, key_among, key_of, no_choices, duration_in, images_of, pages_of, mtu_in, term_length_in, with_duration, with_value};
 ghost use Rattle.std.specs.List.{list_any};
 ghost use Rattle.std.specs.Prelude.{◌≡◌, map, IfOk, OnErr};
 ghost use Rattle.std.specs.Str.{bytes_eq};
@@ -36,14 +36,13 @@ pub enum Key {
     TermLength,
     Mtu,
     ArenaPages,
-    ImagesPerSource,
     FirstSession,
     InitialTerm,
     ReceiverId,
     SendAddress,
 }
 
-/// The settings that the lines of a script chose so far. The others are the default ones, and a driver may be opened
+/// The settings that the lines of a script, or the options of a command line, chose so far. The others are the default ones, and a driver may be opened
 /// with all of them.
 #[derive(Debug, Drop)]
 pub struct Choices {
@@ -104,7 +103,6 @@ fn key_of(name: &str) -> Option<Key>
         ("term-length", Key::TermLength),
         ("mtu", Key::Mtu),
         ("arena-pages", Key::ArenaPages),
-        ("images-per-source", Key::ImagesPerSource),
         ("first-session", Key::FirstSession),
         ("initial-term", Key::InitialTerm),
         ("receiver-id", Key::ReceiverId),
@@ -198,7 +196,6 @@ fn with_value(settings: Settings, key: Key, value: &str) -> Option<Settings>
         Key::TermLength => settings.term_length = term_length_in(value)?,
         Key::Mtu => settings.mtu = mtu_in(value)?,
         Key::ArenaPages => settings.arena_pages = pages_of(value)?,
-        Key::ImagesPerSource => settings.images_per_source = images_of(value)?,
         Key::FirstSession => settings.first_session = session_id_of(value)?,
         Key::InitialTerm => settings.initial_term = session_id_of(value)?,
         Key::ReceiverId => settings.receiver_id = number(value)?,
@@ -254,5 +251,19 @@ impl Choices {
         self.given.push(name)?;
         self.settings = settings;
         Ok(true)
+    }
+
+    /// Bounds how many images one source address may have open, which no line of a script does. The answer is `false`, and
+    /// nothing is changed, where the value is out of its range.
+    pub fn bound_images(&mut self, value: &str) -> bool
+        ensures { BoundsImages self.old self.new value.now result }
+    {
+        let Some(images) = images_of(value) else {
+            return false;
+        };
+        let mut settings = self.settings;
+        settings.images_per_source = images;
+        self.settings = settings;
+        true
     }
 }

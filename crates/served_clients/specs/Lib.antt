@@ -1,3 +1,5 @@
 pub mod Telling
 pub mod Positions
+pub mod Given
+pub mod Watching
 pub mod Acts

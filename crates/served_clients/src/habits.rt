@@ -1,16 +1,19 @@
 //! How a client behaves, as far as its connection heeds it.
 
+ghost use Rattle.reading_progress.specs.Pairs.{pair_at};
+ghost use Rattle.reading_progress.specs.Watches.{after_all, is_left_behind, new_watch};
+ghost use Rattle.served_clients.specs.Given.{is_subscribing};
+ghost use Rattle.served_clients.specs.Watching.{IsNoted, after_handing, after_looking, gone_after, is_there};
+ghost use Rattle.std.specs.Prelude.{◌≡◌};
+
+use crate::given::Given;
 use crate::keeper::Keeper;
-use command_codec::Command;
 use driver_core::Reply;
 use driver_service::{Reason, Refusal};
-use media_driver::{ClientReply, DriverNaming, Mail};
-
-/// The type of ADD_SUBSCRIPTION, as it stands in front of a command.
-const SUBSCRIBE: [u8; 4] = [4, 0, 0, 0];
-
-/// The type of TERMINATE_DRIVER.
-const TERMINATE: [u8; 4] = [0x0E, 0, 0, 0];
+use media_driver::{ClientReply, DriverNaming, ImagePositions, Mail, PositionFault};
+use policy_core::Decision;
+use reading_progress::{Pair, Watch};
+use std::alloc::Global;
 
 /// How a client behaves. Moments are those of its keeper.
 #[derive(Drop)]
@@ -18,131 +21,204 @@ pub(crate) struct Habits<K: Keeper + Drop> {
     keeper: K,
     /// How long the driver lets it be silent, in nanoseconds.
     liveness: u64,
-    /// How long it may read nothing while there is a stream to read, in nanoseconds, if there is a bound.
-    unread: Option<u64>,
     /// When it says to the driver again that it is there.
     due: u64,
-    /// Whether it ever asked to subscribe.
-    subscribed: bool,
-    /// How many streams it was told of that are there.
-    images: u64,
-    /// When it read last.
-    read: u64,
+    /// How it goes on with what it has to read.
+    watch: Watch,
     gone: Option<Reason>,
-    /// The correlation id of its command to end the driver, if it gave one.
-    ending: Option<u64>,
-    /// Whether that was done.
-    ended: bool,
+    /// Whether it ever asked that the driver end.
+    terminates: bool,
 }
 
 impl<K: Keeper + Drop> Habits<K> {
-    pub(crate) fn new(keeper: K, liveness: u64, unread: Option<u64>) -> Habits<K> {
-        let read = keeper.now();
+    pub(crate) fn new(alloc: Global, keeper: K, liveness: u64, unread: Option<u64>) -> Habits<K>
+        ensures keeper { result.keeper ≡ keeper }
+        ensures watch { result.watch ≡ new_watch unread }
+    {
         Habits {
             keeper,
             liveness,
-            unread,
             due: 0,
-            subscribed: false,
-            images: 0,
-            read,
+            watch: Watch::new(alloc, unread),
             gone: None,
-            ending: None,
-            ended: false,
+            terminates: false,
         }
     }
 
-    pub(crate) fn into_parts(self) -> (K, bool) {
+    /// What it shares, and whether it ever asked that the driver end.
+    pub(crate) fn into_parts(self) -> (K, bool)
+        ensures { result.0 ≡ self.keeper }
+    {
         let Habits {
             keeper,
             liveness: _,
-            unread: _,
             due: _,
-            subscribed: _,
-            images: _,
-            read: _,
+            watch: _,
             gone: _,
-            ending: _,
-            ended,
+            terminates,
         } = self;
-        (keeper, ended)
+        (keeper, terminates)
     }
 
-    pub(crate) fn gone(&self) -> Option<Reason> {
+    pub(crate) fn gone(&self) -> Option<Reason>
+        ensures { result ≡ self.now.gone }
+    {
         self.gone
     }
 
+    /// Now, in nanoseconds.
+    pub(crate) fn now(&self) -> u64 {
+        self.keeper.now()
+    }
+
+    /// A request is answered next, once others had their part.
+    pub(crate) fn give_way(&mut self)
+        ensures { self.new.watch ≡ self.old.watch }
+    {
+        self.keeper.give_way();
+    }
+
     /// The client is heard of. Whether it is to say so to the driver.
-    pub(crate) fn is_due(&mut self) -> bool {
-        let now = self.keeper.now();
-        if let Some(longest) = self.unread {
-            if self.subscribed && now.saturating_sub(self.read) > longest {
-                self.gone = Some(Reason::Unread);
-            }
-        }
-        now >= self.due
+    pub(crate) fn is_due(&self) -> bool {
+        self.keeper.now() >= self.due
     }
 
     /// It said so, or could not.
-    pub(crate) fn stayed(&mut self, told: bool) {
+    pub(crate) fn stayed(&mut self, told: bool)
+        ensures { self.new.watch ≡ self.old.watch }
+    {
         if told {
             self.due = self.keeper.now().saturating_add(self.liveness / 4);
         }
     }
 
-    /// Whether the bytes may go to the driver as a command.
+    /// Whether it is to be looked now how far it has come with what it reads.
+    pub(crate) fn is_watched(&self) -> bool {
+        self.watch.is_due(self.keeper.now())
+    }
+
+    /// What it reads, in that place.
+    pub(crate) fn pair(&self, place: usize) -> Option<Pair>
+        ensures { result ≡ pair_at place self.now.watch.pairs }
+    {
+        self.watch.pair(place)
+    }
+
+    /// It was looked at that moment how far it has come with that. Whether it reads it still.
+    pub(crate) fn seen(
+        &mut self,
+        now: u64,
+        pair: Pair,
+        gave: &Result<ImagePositions, PositionFault>,
+    ) -> bool
+        ensures watch { self.new.watch ≡ after_looking now pair gave.now self.old.watch }
+        ensures there { result ≡ is_there gave.now }
+        ensures keeper { self.new.keeper ≡ self.old.keeper }
+    {
+        match gave {
+            Ok(shown) => {
+                self.watch.seen(
+                    pair.subscription,
+                    pair.source,
+                    now,
+                    shown.position,
+                    shown.received,
+                );
+                true
+            }
+            Err(PositionFault::Closed) => {
+                self.watch.ended(pair.subscription, pair.source);
+                false
+            }
+            Err(PositionFault::NoLook) => true,
+        }
+    }
+
+    /// It was looked at that moment at all that it reads; and as many of its replies are kept as there is room for, or not. Where it
+    /// has something to read and does not go on for too long, it is gone.
+    pub(crate) fn settle(&mut self, now: u64, is_full: bool)
+        ensures watch { self.new.watch ≡ after_all now is_full self.old.watch }
+        ensures gone { self.new.gone ≡ gone_after (is_left_behind now self.new.watch) self.old.gone }
+        ensures keeper { self.new.keeper ≡ self.old.keeper }
+    {
+        if self.watch.settle(now, is_full) {
+            self.gone = Some(Reason::Unread);
+        }
+    }
+
+    /// Whether that may go to the driver as a command.
     ///
     /// # Errors
     /// Why not.
-    pub(crate) fn admit(&mut self, client: u64, bytes: &[u8]) -> Result<(), Reason> {
-        self.keeper.admit(client, bytes)
+    pub(crate) fn admit(&mut self, client: u64, given: &Given) -> Result<(), Reason>
+        ensures { K.admits self.old.keeper client given.now result self.new.keeper }
+    {
+        self.keeper.admit(client, given)
     }
 
-    /// They did not go.
-    pub(crate) fn withdrawn(&mut self, client: u64, bytes: &[u8]) {
-        self.keeper.withdraw(client, bytes);
+    /// It did not go.
+    pub(crate) fn withdrawn(&mut self, client: u64, given: &Given) {
+        self.keeper.withdraw(client, given);
     }
 
-    /// They went.
-    pub(crate) fn handed(&mut self, bytes: &[u8]) {
-        if bytes.starts_with(&TERMINATE) {
-            self.ending = Some(Command::correlation_of(bytes));
+    /// It went.
+    pub(crate) fn handed(&mut self, given: &Given)
+        ensures keeper { self.new.keeper ≡ self.old.keeper }
+        ensures watch { self.new.watch ≡ after_handing (is_subscribing given.now) self.old.watch }
+    {
+        if given.terminates() {
+            self.terminates = true;
         }
-        if bytes.starts_with(&SUBSCRIBE) && !self.subscribed {
-            self.subscribed = true;
-            self.read = self.keeper.now();
+        if given.subscribes() {
+            self.watch.subscribes();
         }
+    }
+
+    /// The driver was ended.
+    pub(crate) fn stopped(&mut self) {
+        self.gone = Some(Reason::Stopped);
+    }
+
+    /// That was denied to the client.
+    pub(crate) fn denied(&mut self, decision: &Decision)
+        ensures { self.new.watch ≡ self.old.watch }
+    {
+        self.keeper.denied(decision);
     }
 
     /// A message went into a log, or none did.
-    pub(crate) fn stir(&mut self, any: bool) {
+    pub(crate) fn stir(&mut self, any: bool)
+        ensures { self.new.watch ≡ self.old.watch }
+    {
         if any {
             self.keeper.stir();
         }
     }
 
-    /// A log was polled.
-    pub(crate) fn polled(&mut self, told: &Result<u32, Refusal>) {
-        self.read = self.keeper.now();
+    /// A log was polled: whatever was asked for and came of it, that is no word of how far the client has come.
+    pub(crate) fn polled(&mut self, told: &Result<u32, Refusal>)
+        ensures { self.new.watch ≡ self.old.watch }
+    {
         if let Ok(count) = told {
             self.stir(*count > 0);
         }
     }
 
     /// What a reply says of the client itself.
-    fn note(&mut self, reply: &ClientReply) {
+    fn note(&mut self, reply: &ClientReply)
+        ensures { IsNoted reply.now self.old.watch self.new.watch self.new.gone }
+    {
         match reply {
             ClientReply::Of(Reply::ClientTimeout { .. }) => self.gone = Some(Reason::WrongClient),
-            ClientReply::Of(Reply::AvailableImage { .. }) => {
-                self.images = self.images.saturating_add(1);
-            }
-            ClientReply::Of(Reply::UnavailableImage { .. }) => {
-                self.images = self.images.saturating_sub(1);
-            }
-            ClientReply::Of(Reply::OperationSuccess { correlation }) => {
-                if self.ending == Some(*correlation) {
-                    self.ended = true;
-                    self.gone = Some(Reason::Stopped);
+            ClientReply::Of(
+                Reply::AvailableImage {
+                    source,
+                    subscription,
+                    ..
+                },
+            ) => {
+                if self.watch.reads(*subscription, *source).is_err() {
+                    self.gone = Some(Reason::NoMemory);
                 }
             }
             _ => {}
@@ -151,17 +227,11 @@ impl<K: Keeper + Drop> Habits<K> {
 
     /// The next reply was taken, or there was none.
     pub(crate) fn noted<N: DriverNaming>(&mut self, mail: &Option<Mail<N>>) {
-        match mail {
-            Some(mail) => {
-                let reply = mail.reply();
-                self.keeper.note(mail.client(), &reply);
-                self.note(&reply);
-            }
-            None => {
-                if self.images == 0 {
-                    self.read = self.keeper.now();
-                }
-            }
+        if let Some(mail) = mail {
+            let reply = mail.reply();
+            self.watch.replied(mail.lost());
+            self.keeper.note(mail.client(), &reply);
+            self.note(&reply);
         }
     }
 }

@@ -4,6 +4,8 @@
 //! principal may do, and nothing else.
 #![tactic(auto)]
 
+mod denying;
+mod given;
 mod habits;
 mod keeper;
 mod looking;
@@ -14,6 +16,7 @@ mod replying;
 mod served;
 mod serving;
 
+pub use given::Given;
 pub use keeper::Keeper;
-pub use served::Served;
+pub use served::{Parted, Served, is_ended};
 pub use serving::serve;

@@ -1,12 +1,17 @@
 -- How much changed rows count.
 use Rattle.std.proofs.Common.{◌≡◌, ◌≢◌, ℕ, ◌+◌, ◌≤◌, ◌<◌, Bool, true, false, cond, leb, ltb, List, [], ◌∷◌, ◌++◌, filter, map, Option, Some, None, Result, Ok, Err, refl, sym, ap, subst, ◌∙◌, arith}
 use Rattle.std.proofs.lemmas.Bool.{leb-false, ltb-false}
-use Rattle.service_bounds.specs.Changes.{is_asked_by, is_registered, is_removed_by, leaving, left, removed, standing, staying, was_not_asked}
+use Rattle.service_bounds.specs.Changes.{answered_rows, is_asked_by, is_removed, left, refused_rows, removed, removed_rows, standing, was_not_asked}
 use Rattle.service_bounds.specs.Counts.{IsAdded, IsWithin, counted, counts_at, held, its_pages, one_counter, one_publication, one_subscription, passed}
+use Rattle.service_bounds.specs.Flights.{removal_of}
 use Rattle.service_bounds.specs.declared.bounds.Bound.{Bound}
 use Rattle.service_bounds.specs.declared.bounds.Bounds.{Bounds}
+use Rattle.service_bounds.specs.declared.flights.Flight.{Flight}
+use Rattle.service_bounds.specs.declared.outcome.Outcome.{Outcome}
+use Rattle.service_bounds.specs.declared.outcome.Outcome.TheVariants as outcomes
 use Rattle.service_bounds.specs.declared.row.Kind.{Kind}
 use Rattle.service_bounds.specs.declared.row.Kind.TheVariants as kinds
+use Rattle.service_bounds.specs.declared.row.Removal.{Removal}
 use Rattle.service_bounds.specs.declared.row.Row.{Row}
 
 -- a change that leaves what a row is changes no sum
@@ -53,20 +58,31 @@ chosen_kind : (b : Bool) (changed row : Row) → changed.kind ≡ row.kind → (
 chosen_kind true changed row same = same
 chosen_kind false changed row same = refl
 
-pub leaving_kind : (client registration correlation : ℕ) (row : Row) → (leaving client registration correlation row).kind ≡ row.kind
-leaving_kind client registration correlation row = chosen_kind (is_registered client registration row) _ row refl
-
-pub staying_kind : (client correlation : ℕ) (row : Row) → (staying client correlation row).kind ≡ row.kind
-staying_kind client correlation row = chosen_kind (is_removed_by client correlation row) _ row refl
-
 pub standing_kind : (client correlation registration : ℕ) (row : Row) → (standing client correlation registration row).kind ≡ row.kind
 standing_kind client correlation registration row = chosen_kind (is_asked_by client correlation row) _ row refl
 
-pub removed_kind : (now client correlation : ℕ) (row : Row) → (removed now client correlation row).kind ≡ row.kind
-removed_kind now client correlation row = chosen_kind (is_removed_by client correlation row) _ row refl
+pub removed_kind : (now client : ℕ) (removal : Removal) (row : Row) → (removed now client removal row).kind ≡ row.kind
+removed_kind now client removal row = chosen_kind (is_removed client removal row) _ row refl
 
 pub left_kind : (now client : ℕ) (row : Row) → (left now client row).kind ≡ row.kind
 left_kind now client row = chosen_kind _ _ row refl
+
+-- ---- an answer lets nothing more count
+
+removed_within : (bounds : Bounds) (now client : ℕ) (removal : Option Removal) (rows : List Row) → IsWithin bounds rows → IsWithin bounds (removed_rows now client removal rows)
+removed_within bounds now client None rows within = within
+removed_within bounds now client (Some removal) rows within = within_map bounds (removed now client removal) (removed_kind now client removal) rows within
+
+pub answered_within : (bounds : Bounds) (now client correlation : ℕ) (outcome : Outcome) (flights : List Flight) (rows : List Row) →
+    IsWithin bounds rows → IsWithin bounds (answered_rows now client correlation outcome flights rows)
+answered_within bounds now client correlation (outcomes.Stands registration) flights rows within =
+    within_map bounds (standing client correlation registration) (standing_kind client correlation registration) rows within
+answered_within bounds now client correlation outcomes.Done flights rows within =
+    removed_within bounds now client (removal_of client correlation flights) rows within
+answered_within bounds now client correlation outcomes.Missing flights rows within =
+    removed_within bounds now client (removal_of client correlation flights) (refused_rows client correlation rows)
+    (within_filter bounds (was_not_asked client correlation) rows within)
+answered_within bounds now client correlation outcomes.Refused flights rows within = within_filter bounds (was_not_asked client correlation) rows within
 
 -- ---- one that passes no bound
 

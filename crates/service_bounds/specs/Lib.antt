@@ -1,4 +1,5 @@
 pub mod Counts
+pub mod Flights
 pub mod Changes
 pub mod Asking
 pub mod Held

@@ -1,14 +1,12 @@
-//! What the bytes of a command ask for, as far as it counts.
+//! What a command asks for, as far as it counts.
 
 ghost use Rattle.channel_uri.specs.Channel.{denotes};
-ghost use Rattle.command_codec.specs.Command.{command_of};
-ghost use Rattle.service_bounds.specs.Asking.{body_asks, command_asks, publication_of};
-ghost use Rattle.std.specs.Prelude.{◌≡◌, IfOk};
+ghost use Rattle.service_bounds.specs.Asking.{body_asks, given_asks, publication_of};
+ghost use Rattle.std.specs.Prelude.{◌≡◌};
 
-use crate::row::Kind;
+use crate::row::{Kind, Removal, Sort};
 use channel_uri::Channel;
-use command_codec::{Body, Command, CommandFault};
-use std::alloc::{AllocError, Global};
+use command_codec::Body;
 
 /// The bytes of a page.
 const PAGE: u64 = 4_096;
@@ -18,8 +16,8 @@ const PAGE: u64 = 4_096;
 pub enum Asked {
     /// One more of that kind, which counts so long after it was removed, in nanoseconds.
     Adds { kind: Kind, linger: u64 },
-    /// That of this registration goes.
-    Removes { registration: u64 },
+    /// That one goes.
+    Removes(Removal),
     /// Nothing that counts: another command, or bytes that are none.
     Other,
 }
@@ -57,35 +55,29 @@ fn asked_by(body: &Body, term_length: u32, linger: u64) -> Asked
             kind: Kind::Counter,
             linger: 0,
         },
-        Body::RemovePublication(removal) => Asked::Removes {
+        Body::RemovePublication(removal) => Asked::Removes(Removal {
+            sort: Sort::Publication,
             registration: removal.registration,
-        },
-        Body::RemoveSubscription(removal) => Asked::Removes {
+        }),
+        Body::RemoveSubscription(removal) => Asked::Removes(Removal {
+            sort: Sort::Subscription,
             registration: removal.registration,
-        },
-        Body::RemoveCounter(removal) => Asked::Removes {
+        }),
+        Body::RemoveCounter(removal) => Asked::Removes(Removal {
+            sort: Sort::Counter,
             registration: removal.registration,
-        },
+        }),
         _ => Asked::Other,
     }
 }
 
-/// What the bytes of a command ask for. `term_length`, in bytes, and `linger`, in nanoseconds, are those of a publication whose
-/// channel names none.
-///
-/// # Errors
-/// Where there is no memory to read them.
-pub fn asked_of(
-    alloc: Global,
-    bytes: &[u8],
-    term_length: u32,
-    linger: u64,
-) -> Result<Asked, AllocError>
-    ensures { IfOk result (λ asked. asked ≡ command_asks term_length linger (command_of bytes.now)) }
+/// What is asked for by bytes that came as a command: nothing where they are none. `term_length`, in bytes, and `linger`, in
+/// nanoseconds, are those of a publication whose channel names none.
+pub fn asked_of(body: &Option<Body>, term_length: u32, linger: u64) -> Asked
+    ensures { result ≡ given_asks term_length linger body.now }
 {
-    match Command::read(alloc, bytes) {
-        Ok(command) => Ok(asked_by(&command.body, term_length, linger)),
-        Err(CommandFault::NoMemory) => Err(AllocError),
-        Err(_) => Ok(Asked::Other),
+    match body {
+        Some(body) => asked_by(body, term_length, linger),
+        None => Asked::Other,
     }
 }

@@ -9,6 +9,8 @@ pub struct Bounds {
     pub pages: u64,
     pub subscriptions: u64,
     pub counters: u64,
+    /// Commands that are not answered.
+    pub commands: u64,
 }
 
 /// Which bound something would pass.
@@ -18,4 +20,5 @@ pub enum Bound {
     Pages,
     Subscriptions,
     Counters,
+    Commands,
 }

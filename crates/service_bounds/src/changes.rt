@@ -1,10 +1,10 @@
 //! What commands and replies make of rows.
 
-ghost use Rattle.service_bounds.specs.Changes.{is_asked_by, is_awaited, is_removed_by, leaving, left, lingering, names, removed, standing, staying, was_not_asked};
+ghost use Rattle.service_bounds.specs.Changes.{is_asked, is_asked_by, is_of, is_removed, left, lingering, names, refused_rows, removed, removed_rows, standing, was_not_asked};
 ghost use Rattle.service_bounds.specs.Counts.{counted};
 ghost use Rattle.std.specs.Prelude.{◌≡◌, filter, map};
 
-use crate::row::Row;
+use crate::row::{Kind, Removal, Row, Sort};
 
 /// Whether that command asked for it, and is not answered.
 fn is_asked_by(row: Row, client: u64, correlation: u64) -> bool
@@ -23,11 +23,25 @@ fn names(stands: Option<u64>, number: u64) -> bool
     }
 }
 
-/// Whether that command removes it, and is not answered.
-fn is_removed_by(row: Row, client: u64, correlation: u64) -> bool
-    ensures { result ≡ is_removed_by client correlation row }
+/// Whether it is of that sort.
+fn is_of(kind: Kind, sort: Sort) -> bool
+    ensures { result ≡ is_of sort kind }
 {
-    row.client == client && names(row.removal, correlation)
+    match (sort, kind) {
+        (Sort::Publication, Kind::Publication { .. }) => true,
+        (Sort::Subscription, Kind::Subscription) => true,
+        (Sort::Counter, Kind::Counter) => true,
+        _ => false,
+    }
+}
+
+/// Whether that removes it.
+fn is_removed(row: Row, client: u64, removal: Removal) -> bool
+    ensures { result ≡ is_removed client removal row }
+{
+    row.client == client
+        && names(row.registration, removal.registration)
+        && is_of(row.kind, removal.sort)
 }
 
 /// It counts until it has lingered, and is no client's from now on.
@@ -38,34 +52,6 @@ fn lingering(row: Row, now: u64) -> Row
         until: Some(now.saturating_add(row.linger)),
         client: 0,
         ..row
-    }
-}
-
-/// Its removal is asked for.
-fn leaving(row: Row, client: u64, registration: u64, correlation: u64) -> Row
-    ensures { result ≡ leaving client registration correlation row }
-{
-    if row.client == client && names(row.registration, registration) {
-        Row {
-            removal: Some(correlation),
-            ..row
-        }
-    } else {
-        row
-    }
-}
-
-/// Its removal was refused.
-fn staying(row: Row, client: u64, correlation: u64) -> Row
-    ensures { result ≡ staying client correlation row }
-{
-    if is_removed_by(row, client, correlation) {
-        Row {
-            removal: None,
-            ..row
-        }
-    } else {
-        row
     }
 }
 
@@ -84,10 +70,10 @@ fn standing(row: Row, client: u64, correlation: u64, registration: u64) -> Row
 }
 
 /// It was removed.
-fn removed(row: Row, now: u64, client: u64, correlation: u64) -> Row
-    ensures { result ≡ removed now client correlation row }
+fn removed(row: Row, now: u64, client: u64, removal: Removal) -> Row
+    ensures { result ≡ removed now client removal row }
 {
-    if is_removed_by(row, client, correlation) {
+    if is_removed(row, client, removal) {
         lingering(row, now)
     } else {
         row
@@ -117,39 +103,21 @@ pub(crate) fn let_go(rows: &mut Vec<Row>, now: u64)
 
 /// What that command asked for is not there.
 pub(crate) fn take_back(rows: &mut Vec<Row>, client: u64, correlation: u64)
-    ensures { rows.new.items ≡ filter (was_not_asked client correlation) rows.old.items }
+    ensures { rows.new.items ≡ refused_rows client correlation rows.old.items }
 {
     rows.retain(|row| !is_asked_by(*row, client, correlation));
 }
 
-/// Whether a command with that correlation id is not answered.
-pub(crate) fn is_awaited(rows: &[Row], client: u64, correlation: u64) -> bool
-    ensures { result ≡ is_awaited client correlation rows.now }
+/// Whether something was asked for by a command with that correlation id that is not answered.
+pub(crate) fn is_asked(rows: &[Row], client: u64, correlation: u64) -> bool
+    ensures { result ≡ is_asked client correlation rows.now }
 {
     for row in rows {
-        if is_asked_by(*row, client, correlation) || is_removed_by(*row, client, correlation) {
+        if is_asked_by(*row, client, correlation) {
             return true;
         }
     }
     false
-}
-
-/// The removal of what has that registration is asked for.
-fn mark_each(rows: &mut [Row], client: u64, registration: u64, correlation: u64)
-    ensures { rows.new ≡ map (leaving client registration correlation) rows.old }
-{
-    for row in rows.iter_mut() {
-        *row = leaving(*row, client, registration, correlation);
-    }
-}
-
-/// What that command would have removed stays.
-fn unmark_each(rows: &mut [Row], client: u64, correlation: u64)
-    ensures { rows.new ≡ map (staying client correlation) rows.old }
-{
-    for row in rows.iter_mut() {
-        *row = staying(*row, client, correlation);
-    }
 }
 
 /// What that command asked for has its registration.
@@ -161,12 +129,12 @@ fn register_each(rows: &mut [Row], client: u64, correlation: u64, registration: 
     }
 }
 
-/// What that command removes is removed.
-fn remove_each(rows: &mut [Row], now: u64, client: u64, correlation: u64)
-    ensures { rows.new ≡ map (removed now client correlation) rows.old }
+/// What that removes is removed.
+fn remove_each(rows: &mut [Row], now: u64, client: u64, removal: Removal)
+    ensures { rows.new ≡ map (removed now client removal) rows.old }
 {
     for row in rows.iter_mut() {
-        *row = removed(*row, now, client, correlation);
+        *row = removed(*row, now, client, removal);
     }
 }
 
@@ -179,20 +147,6 @@ fn remove_all_each(rows: &mut [Row], now: u64, client: u64)
     }
 }
 
-/// The removal of what has that registration is asked for.
-pub(crate) fn mark(rows: &mut Vec<Row>, client: u64, registration: u64, correlation: u64)
-    ensures { rows.new.items ≡ map (leaving client registration correlation) rows.old.items }
-{
-    mark_each(rows.as_mut_slice(), client, registration, correlation);
-}
-
-/// What that command would have removed stays.
-pub(crate) fn unmark(rows: &mut Vec<Row>, client: u64, correlation: u64)
-    ensures { rows.new.items ≡ map (staying client correlation) rows.old.items }
-{
-    unmark_each(rows.as_mut_slice(), client, correlation);
-}
-
 /// What that command asked for has its registration.
 pub(crate) fn register(rows: &mut Vec<Row>, client: u64, correlation: u64, registration: u64)
     ensures { rows.new.items ≡ map (standing client correlation registration) rows.old.items }
@@ -200,11 +154,13 @@ pub(crate) fn register(rows: &mut Vec<Row>, client: u64, correlation: u64, regis
     register_each(rows.as_mut_slice(), client, correlation, registration);
 }
 
-/// What that command removes is removed.
-pub(crate) fn remove(rows: &mut Vec<Row>, now: u64, client: u64, correlation: u64)
-    ensures { rows.new.items ≡ map (removed now client correlation) rows.old.items }
+/// What was to be removed is not there.
+pub(crate) fn remove(rows: &mut Vec<Row>, now: u64, client: u64, removal: Option<Removal>)
+    ensures { rows.new.items ≡ removed_rows now client removal rows.old.items }
 {
-    remove_each(rows.as_mut_slice(), now, client, correlation);
+    if let Some(removal) = removal {
+        remove_each(rows.as_mut_slice(), now, client, removal);
+    }
 }
 
 /// All of a client is removed.

@@ -9,6 +9,21 @@ pub enum Kind {
     Counter,
 }
 
+/// What may be removed.
+#[derive(Clone, Copy, Debug, PartialEq, Eq)]
+pub enum Sort {
+    Publication,
+    Subscription,
+    Counter,
+}
+
+/// What a command removes.
+#[derive(Clone, Copy, Debug, PartialEq, Eq)]
+pub struct Removal {
+    pub sort: Sort,
+    pub registration: u64,
+}
+
 /// What a client has, or asked for by a command that is not answered yet.
 #[derive(Clone, Copy, Debug, PartialEq, Eq, Drop)]
 pub struct Row {
@@ -18,8 +33,6 @@ pub struct Row {
     pub correlation: u64,
     /// Its registration, once it is known.
     pub registration: Option<u64>,
-    /// The correlation id of the command that removes it, while that is not answered.
-    pub removal: Option<u64>,
     /// How long it counts after it was removed, in nanoseconds.
     pub linger: u64,
     /// Until when it counts, once it was removed, in nanoseconds.

@@ -1,6 +1,12 @@
+pub mod Descriptors
+pub mod Folders
 pub mod Places
 pub mod Serving
 pub mod Shares
+pub mod Sharing
 pub mod Guests
 pub mod Entering
 pub mod Orders
+pub mod Bells
+pub mod Budgets
+pub mod Memory

@@ -1,6 +1,14 @@
--- The modes of sockets. Own rules; the bits are those of chmod.
-use Rattle.std.specs.Prelude.{◌≡◌, ◌≤◌, ℕ, Option, Some, None}
+-- Where sockets are, and their modes. Own rules; the bits are those of chmod.
+use Rattle.std.specs.Prelude.{◌≡◌, ◌≤◌, ℕ, Option, Some, None, true}
+use Rattle.door_names.specs.Names.{is_path}
 use Rattle.service_doors.specs.declared.places.Owner.{Owner}
+use Rattle.service_doors.specs.declared.places.Place.{Place}
+use Rattle.service_doors.specs.declared.places.Place.TheVariants.{Own, At}
+
+-- a place that is named by its path leads out of no folder, and hides nowhere
+abbrev pub IsPlain : Place → Type 0
+IsPlain (Own owner) = Unit {0}
+IsPlain (At path) = is_path path.now ≡ true
 
 -- group of an owner, where there is an owner
 abbrev pub group_in : Option Owner → Option ℕ

@@ -1,9 +1,17 @@
 //! What wakes those who wait: a message in a log, or room there, what the driver's threads did, and the end of a connection.
 
+ghost use Rattle.service_doors.specs.Bells.{nap_for};
+ghost use Rattle.std.specs.Prelude.{◌≡◌, ◌≤◌};
+
+use crate::budgets::Budgets;
+use crate::doors::Door;
+use crate::fault::DoorFault;
+use crate::memory::DoorMemory;
 use driver_service::Pauses;
 use mio::unix::SourceFd;
 use mio::{Events, Interest, Poll, Token, Waker};
 use program_parts::{Machine, ticks};
+use service_streams::LongRecords;
 use std::alloc::Global;
 use std::os::fd::AsRawFd;
 use std::os::unix::net::UnixStream;
@@ -15,9 +23,16 @@ use std::time::{Clock, Duration};
 /// For how long a wait yields to other threads before it sleeps, in nanoseconds.
 const YIELDING: u64 = 50_000;
 
-/// How long it sleeps then at once, in nanoseconds. What comes by time alone, as word of a client that was silent for too long,
-/// wakes nobody.
+/// How long it sleeps then at once at most, in nanoseconds. What comes by time alone, as word of a client that was silent for too
+/// long, wakes nobody.
 const SLEEP: u64 = 50_000_000;
+
+/// How long it sleeps at once at least, in nanoseconds.
+const NAP: u64 = 1_000_000;
+
+/// Which part of what it waited so far it sleeps at once: whoever answers may be long at work on others, and rings when that is
+/// done.
+const NAPS: u64 = 2;
 
 /// How often a wait may be woken in vain before it sleeps on for a while each time. All who sleep are woken at once, whatever
 /// they wait for.
@@ -53,15 +68,31 @@ pub struct Bells {
     bells: Mutex<Vec<Arc<Bell>>>,
     /// Whether the driver stops.
     stopping: AtomicBool,
+    budgets: Budgets,
 }
 
 impl Bells {
-    pub(crate) fn new(alloc: Global) -> Bells {
-        Bells {
+    /// Nobody sleeps, and nobody took anything of the processors.
+    pub(crate) fn new<R: Machine>(rt: &R, doors: &[Door]) -> Result<Bells, DoorFault> {
+        let alloc = rt.alloc();
+        Ok(Bells {
             sleepers: AtomicU64::new(0),
             bells: Mutex::new(Vec::new(alloc)),
             stopping: AtomicBool::new(false),
-        }
+            budgets: Budgets::new(alloc, doors, processors(rt))?,
+        })
+    }
+
+    /// An agent of the driver that carries messages has something to do, so those of whom it has none go second.
+    pub fn agent_works<R: Clock>(&self, rt: &R) {
+        self.budgets.agent_works(ticks(rt));
+    }
+
+    /// A client of that principal took so much time of a processor. For how long it rests, in nanoseconds.
+    pub(crate) fn took<R: Wait>(&self, rt: &R, principal: u32, now: u64, spent: u64) -> u64
+        ensures { result ≤ 990000000 }
+    {
+        self.budgets.took(rt, principal, now, spent)
     }
 
     /// Whoever sleeps goes on: something came that some of them may wait for. Where nobody sleeps, it is one load.
@@ -83,7 +114,7 @@ impl Bells {
         self.ring(rt);
     }
 
-    fn is_stopping(&self) -> bool {
+    pub(crate) fn is_stopping(&self) -> bool {
         self.stopping.load(Ordering::SeqCst)
     }
 
@@ -115,6 +146,14 @@ impl Bells {
         let _ = self.wakes(bell);
         let mut bells = self.bells.lock(rt);
         bells.retain(|other| other.number != bell.number);
+    }
+}
+
+/// How many processors there are, as far as the system says.
+fn processors<R: Machine>(rt: &R) -> u64 {
+    match thread::available_parallelism(rt) {
+        Ok(count) => count.get() as u64,
+        Err(_) => 1,
     }
 }
 
@@ -166,6 +205,7 @@ pub struct Watch<R: Clock + Wait + Copy + Drop> {
     rt: R,
     bells: Arc<Bells>,
     bell: Arc<Bell>,
+    memory: DoorMemory,
     bed: Bed,
     /// When this wait began, in nanoseconds of the steady clock.
     began: u64,
@@ -190,7 +230,13 @@ fn bell_for(alloc: Global, bed: &Bed, number: u64) -> Option<Arc<Bell>> {
 
 impl<R: Machine> Watch<R> {
     /// A wait of the client of that number. `None` where there is no memory, or the system has no more descriptors.
-    pub fn new(rt: R, bells: Arc<Bells>, stream: &UnixStream, number: u64) -> Option<Watch<R>> {
+    pub fn new(
+        rt: R,
+        bells: Arc<Bells>,
+        memory: DoorMemory,
+        stream: &UnixStream,
+        number: u64,
+    ) -> Option<Watch<R>> {
         let bed = Bed::new(&rt, stream)?;
         let bell = bell_for(rt.alloc(), &bed, number)?;
         bells.enter(&rt, &bell)?;
@@ -198,6 +244,7 @@ impl<R: Machine> Watch<R> {
             rt,
             bells,
             bell,
+            memory,
             bed,
             began: 0,
             woken: false,
@@ -210,6 +257,7 @@ impl<R: Machine> Watch<R> {
 impl<R: Clock + Wait + Copy + Drop> Watch<R> {
     /// The connection ended.
     pub fn end(&mut self) {
+        self.memory.end(&self.rt);
         self.bells.leave(&self.rt, &self.bell);
     }
 
@@ -250,9 +298,16 @@ fn deaf_for(wakes: u32, waited: u64) -> u64 {
     }
 }
 
-/// Lets others go on for a while. Whether to wait on.
+/// For how long a wait sleeps at once that is so long, both in nanoseconds.
+fn nap_for(waited: u64) -> u64
+    ensures { result ≡ nap_for waited }
+{
+    (waited / NAPS).max(NAP).min(SLEEP)
+}
+
+/// Lets others go on for a while. Whether to wait on: not where nobody waits for the answer any more.
 fn pause_of<R: Clock + Wait + Copy + Drop>(watch: &mut Watch<R>, turn: u32, longest: u64) -> bool {
-    if watch.bells.is_stopping() {
+    if watch.gone || watch.bells.is_stopping() {
         return false;
     }
     let waited = watch.waited(turn);
@@ -269,7 +324,7 @@ fn pause_of<R: Clock + Wait + Copy + Drop>(watch: &mut Watch<R>, turn: u32, long
         // From now on it is woken, so the request is tried once more before it sleeps.
         return true;
     }
-    watch.doze(SLEEP.min(longest))
+    watch.doze(nap_for(waited).min(longest))
 }
 
 impl<R: Clock + Wait + Copy + Drop> Pauses for Watch<R> {
@@ -279,5 +334,25 @@ impl<R: Clock + Wait + Copy + Drop> Pauses for Watch<R> {
 
     fn is_stopping(&self) -> bool {
         self.bells.is_stopping()
+    }
+}
+
+impl<R: Clock + Wait + Copy + Drop> LongRecords for Watch<R> {
+    fn begin_long(&mut self, bytes: u64) -> bool {
+        for turn in 0..u32::MAX {
+            if self.memory.begin(&self.rt, bytes) {
+                return true;
+            }
+            if !pause_of(self, turn, SLEEP) {
+                return false;
+            }
+        }
+        false
+    }
+
+    fn end_long(&mut self) {
+        self.memory.end(&self.rt);
+        // another connection of the door may wait for that
+        self.bells.ring(&self.rt);
     }
 }

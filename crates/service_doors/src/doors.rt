@@ -1,11 +1,13 @@
 //! The sockets of a driver that serves: one for each principal, whose owner and mode say who may enter.
 
-use crate::fault::DoorFault;
+ghost use Rattle.std.specs.Prelude.{◌≡◌, IfOk};
+
+use crate::fault::{DoorRefusal, PlaceFault, at};
+use crate::folders::{joined, keep_folder, look_along, make_hidden, parts_of, real_path};
 use crate::places::{Owner, Place, Plan, mode_of};
 use program_parts::Disk;
-use std::alloc::Global;
-use std::fs::{self, DirBuilder, Permissions};
-use std::os::unix::fs::{DirBuilderExt, MetadataExt, PermissionsExt, chown};
+use std::fs::{self, Permissions};
+use std::os::unix::fs::{FileTypeExt, PermissionsExt, lchown};
 use std::os::unix::net::{UnixListener, UnixStream};
 
 /// How many bytes the path of a socket has at most.
@@ -21,114 +23,127 @@ pub struct Door {
     path: String,
 }
 
-/// A folder is there, and nobody else may write there.
-fn keep_folder<F: Disk>(files: &F, path: &str, mode: u32) -> Result<(), DoorFault> {
-    let mut builder = DirBuilder::new();
-    builder.mode(mode);
-    let _ = builder.create(files, path);
-    match fs::metadata(files, path) {
-        Ok(found) if found.is_dir() && found.mode() & 0o022 == 0 => Ok(()),
-        _ => Err(DoorFault::Folder),
-    }
+/// Where the socket of a door is to be: a folder, on whose path no link is, and a path in it.
+#[derive(Drop)]
+struct Spot {
+    folder: String,
+    path: String,
 }
 
-/// A socket gets its mode, and then its owner where one is named. Whether it did.
-fn give<F: Disk>(files: &F, hidden: &str, mode: u32, owner: Option<Owner>) -> bool {
-    if fs::set_permissions(files, hidden, Permissions::from_mode(mode)).is_err() {
-        return false;
-    }
+/// A socket gets its owner, where one is named. Whether it did.
+fn give<F: Disk>(files: &F, hidden: &str, owner: Option<Owner>) -> bool {
     match owner {
-        Some(owner) => chown(files, hidden, Some(owner.user), owner.group).is_ok(),
+        Some(owner) => lchown(files, hidden, Some(owner.user), owner.group).is_ok(),
         None => true,
     }
 }
 
-/// A socket is bound where nobody else may enter, and gets its mode and its owner there.
+/// A socket gets its mode, and no call at it waits. Whether it did.
+fn ready<F: Disk>(files: &F, hidden: &str, mode: u32, listener: &UnixListener) -> bool {
+    listener.set_nonblocking(true).is_ok()
+        && fs::set_permissions(files, hidden, Permissions::from_mode(mode)).is_ok()
+}
+
+/// A socket is made where nobody else may enter, and gets its mode and its owner there.
 fn bind<F: Disk>(
     files: &F,
     hidden: &str,
     mode: u32,
     owner: Option<Owner>,
-) -> Result<UnixListener, DoorFault> {
-    let _ = fs::remove_file(files, hidden);
+) -> Result<UnixListener, PlaceFault> {
     let Ok(listener) = UnixListener::bind(files, hidden) else {
-        return Err(DoorFault::Socket);
+        return Err(PlaceFault::NoSocket);
     };
-    if !give(files, hidden, mode, owner) || listener.set_nonblocking(true).is_err() {
-        let _ = fs::remove_file(files, hidden);
-        return Err(DoorFault::Socket);
+    if !ready(files, hidden, mode, &listener) {
+        return Err(PlaceFault::NoSocket);
+    }
+    if !give(files, hidden, owner) {
+        return Err(PlaceFault::NotGiven);
     }
     Ok(listener)
 }
 
 /// Why a bound socket may not get its place, if it may not.
-fn refusal_of<F: Disk>(files: &F, path: &str) -> Option<DoorFault> {
+fn refusal_of<F: Disk>(files: &F, path: &str) -> Option<PlaceFault> {
     if path.len() > LONGEST {
-        return Some(DoorFault::Socket);
+        return Some(PlaceFault::NoSocket);
     }
-    if UnixStream::connect(files, path).is_ok() {
-        return Some(DoorFault::Serves);
+    match fs::symlink_metadata(files, path) {
+        Ok(found) if !found.file_type().is_socket() => Some(PlaceFault::Taken),
+        Ok(_) if UnixStream::connect(files, path).is_ok() => Some(PlaceFault::Serves),
+        _ => None,
     }
-    None
 }
 
 /// A bound socket gets its place, where no other driver serves.
-fn put<F: Disk>(files: &F, hidden: &str, path: &str) -> Result<(), DoorFault> {
-    let fault = match refusal_of(files, path) {
-        Some(fault) => fault,
-        None if fs::rename(files, hidden, path).is_ok() => return Ok(()),
-        None => DoorFault::Socket,
-    };
-    let _ = fs::remove_file(files, hidden);
-    Err(fault)
+fn put<F: Disk>(files: &F, hidden: &str, path: &str) -> Result<(), PlaceFault> {
+    match refusal_of(files, path) {
+        Some(fault) => Err(fault),
+        None if fs::rename(files, hidden, path).is_ok() => Ok(()),
+        None => Err(PlaceFault::NoSocket),
+    }
 }
 
-/// A socket is bound where nobody else may enter, and gets its place.
+/// A socket is made where nobody else may enter, and gets its place.
 fn open_at<F: Disk>(
     files: &F,
     hidden: &str,
     path: &str,
     mode: u32,
     owner: Option<Owner>,
-) -> Result<UnixListener, DoorFault> {
+) -> Result<UnixListener, PlaceFault> {
     let listener = bind(files, hidden, mode, owner)?;
     put(files, hidden, path)?;
     Ok(listener)
 }
 
-/// A socket in the driver's folder.
-fn open_own<F: Disk>(
+/// A socket is made, in a folder where nobody else may write.
+fn open_in<F: Disk>(
+    files: &F,
+    spot: &Spot,
+    mode: u32,
+    owner: Option<Owner>,
+) -> Result<UnixListener, DoorRefusal> {
+    let Spot { folder, path } = spot;
+    look_along(files, folder.as_str(), false)?;
+    let hidden = joined(files, folder.as_str(), ".new")?;
+    let socket = joined(files, hidden.as_str(), "s")?;
+    make_hidden(files, hidden.as_str(), socket.as_str())?;
+    let opened = open_at(files, socket.as_str(), path.as_str(), mode, owner);
+    let _ = fs::remove_file(files, socket.as_str());
+    let _ = fs::remove_dir(files, hidden.as_str());
+    match opened {
+        Ok(listener) => Ok(listener),
+        Err(fault) => Err(at(files.alloc(), fault, path.as_str())),
+    }
+}
+
+/// Where the socket of a door is to be, which is in `folder` where no other place is named.
+fn spot_of<F: Disk>(
     files: &F,
     folder: &str,
-    path: &str,
-    owner: Option<Owner>,
-) -> Result<UnixListener, DoorFault> {
-    let hidden = format!(in files.alloc(); "{folder}/.new/s")?;
-    open_at(files, hidden.as_str(), path, mode_of(owner), owner)
+    name: &str,
+    place: Place<'_>,
+) -> Result<Spot, DoorRefusal> {
+    let Place::At(path) = place else {
+        let alloc = files.alloc();
+        return Ok(Spot {
+            folder: String::from_str(alloc, folder)?,
+            path: format!(in alloc; "{folder}/{name}.sock")?,
+        });
+    };
+    let (above, name) = parts_of(path);
+    let folder = real_path(files, above)?;
+    let path = joined(files, folder.as_str(), name)?;
+    Ok(Spot { folder, path })
 }
 
-/// A socket in another folder, which may give it its group. It is bound in a folder of its own beside it, which goes again.
-fn open_elsewhere<F: Disk>(files: &F, path: &str, mode: u32) -> Result<UnixListener, DoorFault> {
-    let folder = format!(in files.alloc(); "{path}.new")?;
-    let hidden = format!(in files.alloc(); "{folder}/s")?;
-    let _ = fs::remove_file(files, hidden.as_str());
-    let _ = fs::remove_dir(files, folder.as_str());
-    let mut builder = DirBuilder::new();
-    builder.mode(0o700);
-    if builder.create(files, folder.as_str()).is_err() {
-        return Err(DoorFault::Socket);
+/// The mode and the owner of a door's socket. `mode` is that of one that is named by its path.
+fn rights_of(place: Place<'_>, mode: u32) -> (u32, Option<Owner>) {
+    match place {
+        Place::Own(owner) => (mode_of(owner), owner),
+        Place::At(_) => (mode, None),
     }
-    let opened = open_at(files, hidden.as_str(), path, mode, None);
-    let _ = fs::remove_dir(files, folder.as_str());
-    opened
-}
-
-/// Where the socket of a door is to be.
-fn path_of(alloc: Global, folder: &str, name: &str, place: Place<'_>) -> Result<String, DoorFault> {
-    Ok(match place {
-        Place::Own(_) => format!(in alloc; "{folder}/{name}.sock")?,
-        Place::At(path) => String::from_str(alloc, path)?,
-    })
 }
 
 /// Opens a door.
@@ -139,13 +154,14 @@ fn open<F: Disk>(
     place: Place<'_>,
     principal: Option<u32>,
     mode: u32,
-) -> Result<Door, DoorFault> {
-    let path = path_of(files.alloc(), folder, name, place)?;
+) -> Result<Door, DoorRefusal>
+    ensures { IfOk result (λ door. door.principal ≡ principal) }
+{
+    let (mode, owner) = rights_of(place, mode);
+    let spot = spot_of(files, folder, name, place)?;
     let name = String::from_str(files.alloc(), name)?;
-    let listener = match place {
-        Place::Own(owner) => open_own(files, folder, path.as_str(), owner)?,
-        Place::At(_) => open_elsewhere(files, path.as_str(), mode)?,
-    };
+    let listener = open_in(files, &spot, mode, owner)?;
+    let Spot { folder: _, path } = spot;
     Ok(Door {
         listener,
         principal,
@@ -155,12 +171,12 @@ fn open<F: Disk>(
 }
 
 /// Opens a door, which stands after those that are open then.
-fn add<F: Disk>(files: &F, doors: &mut Vec<Door>, door: Door) -> Result<(), DoorFault> {
+fn add<F: Disk>(files: &F, doors: &mut Vec<Door>, door: Door) -> Result<(), DoorRefusal> {
     match doors.push(door) {
         Ok(()) => Ok(()),
         Err(refused) => {
             let _ = fs::remove_file(files, refused.value.path.as_str());
-            Err(DoorFault::NoMemory)
+            Err(DoorRefusal::NoMemory)
         }
     }
 }
@@ -172,7 +188,7 @@ fn open_each<F: Disk>(
     plans: &[Plan<'_>],
     mode: u32,
     doors: &mut Vec<Door>,
-) -> Result<(), DoorFault> {
+) -> Result<(), DoorRefusal> {
     let door = open(files, folder, "operator", Place::Own(None), None, mode)?;
     add(files, doors, door)?;
     for plan in plans {
@@ -193,14 +209,10 @@ pub fn open_doors<F: Disk>(
     folder: &str,
     plans: &[Plan<'_>],
     mode: u32,
-) -> Result<Vec<Door>, DoorFault> {
-    keep_folder(files, folder, 0o755)?;
-    let hidden = format!(in files.alloc(); "{folder}/.new")?;
-    keep_folder(files, hidden.as_str(), 0o700)?;
+) -> Result<Vec<Door>, DoorRefusal> {
+    let folder = keep_folder(files, folder)?;
     let mut doors = Vec::new(files.alloc());
-    let opened = open_each(files, folder, plans, mode, &mut doors);
-    let _ = fs::remove_dir(files, hidden.as_str());
-    match opened {
+    match open_each(files, folder.as_str(), plans, mode, &mut doors) {
         Ok(()) => Ok(doors),
         Err(fault) => {
             close_doors(files, doors.as_slice());

@@ -1,13 +1,14 @@
 //! The connections that are open, and what the clients of each principal have.
 
 ghost use Rattle.service_doors.specs.Guests.{clients_of};
-ghost use Rattle.std.specs.Prelude.{◌≡◌, length};
+ghost use Rattle.std.specs.Prelude.{◌≡◌, IfOk, IfSome, length};
 
 use crate::bells::Bells;
 use crate::doors::Door;
 use crate::fault::DoorFault;
+use crate::memory::LongBytes;
 use crate::serving::{Begun, Serving};
-use crate::share::Share;
+use crate::share::{Room, Share};
 use program_parts::Machine;
 use service_bounds::{Bounds, Holdings};
 use std::alloc::{AllocError, Global};
@@ -86,12 +87,11 @@ impl Guests {
     }
 }
 
-/// What the clients of a principal have.
+/// A principal for whom there is a door.
 #[derive(Drop)]
 struct Holder {
-    principal: u32,
     name: String,
-    holdings: Arc<Mutex<Holdings>>,
+    room: Arc<Room>,
 }
 
 /// What the clients of each principal have.
@@ -100,10 +100,20 @@ pub(crate) struct Holders {
     rows: Vec<Holder>,
 }
 
-/// Nothing is had of so much.
-fn nothing_of(alloc: Global, bounds: Bounds) -> Result<Arc<Mutex<Holdings>>, DoorFault> {
-    match Arc::new(alloc, Mutex::new(Holdings::new(alloc, bounds))) {
-        Ok(holdings) => Ok(holdings),
+/// What the clients of a principal have, who may have so much and have nothing.
+fn room_of(alloc: Global, principal: u32, bounds: Bounds) -> Result<Arc<Room>, DoorFault>
+    ensures { IfOk result (λ room. room.value.principal ≡ principal) }
+{
+    let holdings = Mutex::new(Holdings::new(alloc, bounds));
+    match Arc::new(
+        alloc,
+        Room {
+            principal,
+            holdings,
+            long: Mutex::new(LongBytes::new()),
+        },
+    ) {
+        Ok(room) => Ok(room),
         Err(_) => Err(DoorFault::NoMemory),
     }
 }
@@ -122,10 +132,12 @@ impl Holders {
         Ok(holders)
     }
 
-    fn of(&self, principal: u32) -> Option<&Holder> {
+    fn of(&self, principal: u32) -> Option<&Holder>
+        ensures { IfSome result (λ holder. holder.now.room.value.principal ≡ principal) }
+    {
         self.rows
             .iter()
-            .find(|holder| holder.principal == principal)
+            .find(|holder| holder.room.principal == principal)
     }
 
     /// One more is there, unless they were before.
@@ -140,13 +152,14 @@ impl Holders {
             return Ok(());
         }
         let name = String::from_str(alloc, name)?;
-        let holdings = nothing_of(alloc, bounds)?;
-        self.rows.push(Holder {
-            principal,
-            name,
-            holdings,
-        })?;
+        let room = room_of(alloc, principal, bounds)?;
+        self.rows.push(Holder { name, room })?;
         Ok(())
+    }
+
+    /// How many principals there are.
+    pub(crate) fn len(&self) -> u64 {
+        self.rows.len() as u64
     }
 
     /// The name of a principal.
@@ -164,11 +177,14 @@ impl Holders {
         principal: u32,
         serving: &Serving,
         bells: &Arc<Bells>,
-    ) -> Option<Share<R>> {
+    ) -> Option<Share<R>>
+        ensures principal { IfSome result (λ share. share.room.value.principal ≡ principal) }
+        ensures liveness { IfSome result (λ share. share.spending.liveness ≡ serving.now.liveness) }
+    {
         let holder = self.of(principal)?;
-        let holdings = Arc::try_clone(&holder.holdings).ok()?;
+        let room = Arc::try_clone(&holder.room).ok()?;
         let bells = Arc::try_clone(bells).ok()?;
-        Some(Share::new(rt, rt.alloc(), serving.usual, holdings, bells))
+        Some(Share::new(rt, serving.usual, room, bells, serving.liveness))
     }
 
     /// How many publications, subscriptions and counters a client has.
@@ -180,7 +196,7 @@ impl Holders {
     ) -> (u64, u64, u64) {
         match self.of(principal) {
             Some(holder) => {
-                let holdings = holder.holdings.lock(rt);
+                let holdings = holder.room.holdings.lock(rt);
                 holdings.counts_of(client)
             }
             None => (0, 0, 0),

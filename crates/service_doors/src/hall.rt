@@ -2,9 +2,9 @@
 
 ghost use Rattle.driver_service.specs.declared.reason.Reason.TheVariants.{NoMemory};
 ghost use Rattle.service_doors.specs.Guests.{clients_of};
-ghost use Rattle.service_doors.specs.Entering.{WhyNot};
+ghost use Rattle.service_doors.specs.Entering.{ActsFor, CameBy, LedBy, WhyNot, finds_end};
 ghost use Rattle.std.specs.Option.{is_some};
-ghost use Rattle.std.specs.Prelude.{◌≡◌, ◌≤◌, IfErr, IfOk, false, length, nat_le, true};
+ghost use Rattle.std.specs.Prelude.{◌≡◌, ◌≤◌, ◌||◌, IfErr, IfOk, IfSome, false, length, nat_le, true};
 
 use crate::bells::Bells;
 use crate::doors::Door;
@@ -15,7 +15,7 @@ use crate::serving::{Begun, Entering, Reloaded, Returned, Serving};
 use driver_service::Reason;
 use mio::unix::SourceFd;
 use mio::{Events, Interest, Poll, Token, Waker};
-use program_parts::{Machine, report, ticks};
+use program_parts::{Log, Machine, ticks};
 use service_streams::dismiss;
 use std::alloc::Global;
 use std::net::Shutdown;
@@ -39,6 +39,8 @@ pub struct Hall<'a, R: Machine> {
     pub(crate) holders: Holders,
     pub(crate) guests: Guests,
     bells: Arc<Bells>,
+    /// Where is said what happens.
+    log: Arc<Log>,
     poll: Poll,
     events: Events<Global>,
     /// When the policy's file is read again, in nanoseconds of the machine's clock.
@@ -56,7 +58,7 @@ pub struct Hall<'a, R: Machine> {
 pub enum Event<R: Machine> {
     /// Someone came in and is to get a client: [`Hall::begun`] is told what came of it, with the stream beside it.
     Enters(Entering<R>, UnixStream),
-    /// An operator asks that the policy's file be read again: [`Hall::reloaded`] is told what came of it.
+    /// An operator asks that the policy's file be read again: [`Hall::tell_reload`] tells them what came of it.
     Asks(UnixStream),
     /// It is time to read the policy's file again.
     Due,
@@ -91,8 +93,8 @@ fn watching<R: Machine>(rt: &R, doors: &[Door]) -> Result<Poll, DoorFault> {
 }
 
 /// No bell is there yet.
-fn no_bells(alloc: Global) -> Result<Arc<Bells>, DoorFault> {
-    match Arc::new(alloc, Bells::new(alloc)) {
+fn no_bells<R: Machine>(rt: &R, doors: &[Door]) -> Result<Arc<Bells>, DoorFault> {
+    match Arc::new(rt.alloc(), Bells::new(rt, doors)?) {
         Ok(bells) => Ok(bells),
         Err(_) => Err(DoorFault::NoMemory),
     }
@@ -100,7 +102,12 @@ fn no_bells(alloc: Global) -> Result<Arc<Bells>, DoorFault> {
 
 impl<'a, R: Machine> Hall<'a, R> {
     /// Nobody came in yet.
-    pub fn new(rt: R, doors: &'a [Door], serving: Serving) -> Result<Hall<'a, R>, DoorFault> {
+    pub fn new(
+        rt: R,
+        doors: &'a [Door],
+        serving: Serving,
+        log: Arc<Log>,
+    ) -> Result<Hall<'a, R>, DoorFault> {
         let alloc = rt.alloc();
         Ok(Hall {
             rt,
@@ -108,7 +115,8 @@ impl<'a, R: Machine> Hall<'a, R> {
             serving,
             holders: Holders::new(alloc, doors, serving.bounds)?,
             guests: Guests::new(alloc)?,
-            bells: no_bells(alloc)?,
+            bells: no_bells(&rt, doors)?,
+            log,
             poll: watching(&rt, doors)?,
             events: Events::with_capacity(alloc, CLIENTS)?,
             due: ticks(&rt),
@@ -136,7 +144,7 @@ impl<'a, R: Machine> Hall<'a, R> {
 
     /// What the clients of a principal share, and what wakes them.
     fn entering(&self, stream: UnixStream, principal: u32) -> Result<Entering<R>, Reason>
-        ensures ok { IfOk result (λ entering. entering.principal ≡ principal) }
+        ensures ok { IfOk result (λ entering. (entering.principal ≡ principal) × (entering.share.room.value.principal ≡ principal)) }
         ensures err { IfErr result (λ reason. reason ≡ NoMemory) }
     {
         let rt = self.rt;
@@ -159,7 +167,7 @@ impl<'a, R: Machine> Hall<'a, R> {
 
     /// Someone came in by the door of a principal, who does not have as many clients as it may.
     fn admitted(&self, stream: UnixStream, principal: u32) -> Result<Entering<R>, Reason>
-        ensures ok { IfOk result (λ entering. (nat_le self.now.serving.each (length (clients_of principal self.now.guests.rows.items)) ≡ false) × (entering.principal ≡ principal)) }
+        ensures ok { IfOk result (λ entering. (nat_le self.now.serving.each (length (clients_of principal self.now.guests.rows.items)) ≡ false) × (entering.principal ≡ principal) × (entering.share.room.value.principal ≡ principal)) }
         ensures err { IfErr result (λ reason. WhyNot (nat_le self.now.serving.each (length (clients_of principal self.now.guests.rows.items))) reason) }
     {
         if self.guests.count_of(principal) >= self.serving.each {
@@ -172,13 +180,17 @@ impl<'a, R: Machine> Hall<'a, R> {
     fn refuse(&self, stream: UnixStream, principal: u32, reason: Reason) {
         let mut stream = stream;
         let name = self.holders.name_of(principal);
-        let _ = eprintln!(self.rt; "client of {name} refused: {}", reason.text());
+        let why = reason.text();
+        let refused = format!(in self.rt.alloc(); "client of {name} refused: {why}");
+        self.log.say_of(&self.rt, principal, refused);
         dismiss(self.rt.alloc(), &mut stream, reason);
         let _ = stream.shutdown(Shutdown::Both);
     }
 
-    /// Someone came in by the door of a principal.
-    fn enter(&self, stream: UnixStream, principal: u32) -> Option<Event<R>> {
+    /// Someone came in by the door of a principal: with the stream beside it by which they are told what comes of it.
+    fn enter(&self, stream: UnixStream, principal: u32) -> Option<(Entering<R>, UnixStream)>
+        ensures { IfSome result (λ came. (came.0.principal ≡ principal) × (came.0.share.room.value.principal ≡ principal)) }
+    {
         let limit = Some(Duration::from_nanos(self.serving.liveness));
         let _ = stream.set_read_timeout(limit);
         let _ = stream.set_write_timeout(limit);
@@ -186,7 +198,7 @@ impl<'a, R: Machine> Hall<'a, R> {
             return None;
         };
         match self.admitted(stream, principal) {
-            Ok(entering) => Some(Event::Enters(entering, told)),
+            Ok(entering) => Some((entering, told)),
             Err(reason) => {
                 self.refuse(told, principal, reason);
                 None
@@ -194,52 +206,86 @@ impl<'a, R: Machine> Hall<'a, R> {
         }
     }
 
-    /// Who came in got a client and a thread, or did not: `told` is the stream that came beside them.
-    pub fn begun(&mut self, principal: u32, told: UnixStream, begun: Result<Begun, Reason>) {
+    /// Who came in got a client and a thread, or did not: `told` is the stream that came beside them. A driver that was ended has
+    /// no more clients, so it stops.
+    pub fn begun(&mut self, principal: u32, told: UnixStream, begun: Result<Begun, Reason>)
+        ensures { self.new.stop ≡ self.old.stop || finds_end begun }
+    {
         match begun {
             Ok(begun) => {
                 let number = begun.number;
                 let name = self.holders.name_of(principal);
-                let _ = eprintln!(self.rt; "client {number} of {name}");
+                let came = format!(in self.rt.alloc(); "client {number} of {name}");
+                self.log.say_of(&self.rt, principal, came);
                 self.guests.add(begun, principal, ticks(&self.rt), told);
             }
-            Err(reason) => self.refuse(told, principal, reason),
+            Err(reason) => {
+                self.stop = self.stop || reason == Reason::Stopped;
+                self.refuse(told, principal, reason);
+            }
         }
     }
 
-    /// A client came back from its connection. Whether it ended the driver stops it.
-    pub fn returned(&mut self, returned: Returned) {
+    /// A client came back from its connection. A driver that was ended stops.
+    pub fn returned(&mut self, returned: Returned)
+        ensures { self.new.stop ≡ self.old.stop || returned.ended }
+    {
         self.stop = self.stop || returned.ended;
         self.guests.forget(returned.number);
     }
 
-    /// What came of reading the policy's file again stands on standard error. An operator who asked for it is told too.
-    pub fn reloaded(&self, asked: Option<UnixStream>, came: &Reloaded) {
-        note_reload(&self.rt, came);
-        if let Some(stream) = asked {
-            tell_reload(self.rt.alloc(), stream, came);
+    /// What came of reading the policy's file again is said.
+    pub fn note_reload(&self, came: &Reloaded) {
+        let alloc = self.rt.alloc();
+        let text = match came {
+            Reloaded::Same => return,
+            Reloaded::InForce(text) => String::from_str(alloc, text.as_str()),
+            Reloaded::Refused(why) => format!(in alloc; "policy refused: {why}"),
+            Reloaded::NoMemory => String::from_str(alloc, "policy refused: no memory"),
+        };
+        self.log.say(&self.rt, text);
+    }
+
+    /// An operator who asked for it is told what came of reading the policy's file again.
+    pub fn tell_reload(&self, operator: UnixStream, came: &Reloaded) {
+        tell_reload(self.rt, operator, came);
+    }
+
+    /// Someone came in by a door. What there is to do then.
+    fn meet(&mut self, door: &Door, stream: UnixStream) -> Option<Event<R>>
+        ensures { IfSome result (λ event. ActsFor door.now event) }
+    {
+        match door.principal {
+            Some(principal) => match self.enter(stream, principal) {
+                Some((entering, told)) => Some(Event::Enters(entering, told)),
+                None => None,
+            },
+            None => match self.hear(stream) {
+                Some(operator) => Some(Event::Asks(operator)),
+                None => None,
+            },
         }
     }
 
     /// Whoever waits at a door comes in, if anybody does. What there is to do then; `None` where nobody waits.
-    fn accept_at(&mut self, place: usize) -> Option<Option<Event<R>>> {
-        let doors = self.doors;
+    fn accept_at(&mut self, doors: &[Door], place: usize) -> Option<Option<Event<R>>>
+        ensures { CameBy doors.now result }
+    {
         let door = doors.get(place)?;
-        let Ok((stream, _)) = door.listener.accept() else {
-            return None;
-        };
-        Some(match door.principal {
-            Some(principal) => self.enter(stream, principal),
-            None => self.hear(stream),
-        })
+        match door.listener.accept() {
+            Ok((stream, _)) => Some(self.meet(door, stream)),
+            Err(_) => None,
+        }
     }
 
     /// The next one who waits comes in. The door after theirs is looked at first then, so that nobody keeps others out.
-    fn accept_next(&mut self) -> Option<Option<Event<R>>> {
-        let count = self.doors.len();
+    fn accept_next(&mut self, doors: &[Door]) -> Option<Option<Event<R>>>
+        ensures { CameBy doors.now result }
+    {
+        let count = doors.len();
         for step in 0..count {
             let place = self.turn.saturating_add(step) % count;
-            if let Some(event) = self.accept_at(place) {
+            if let Some(event) = self.accept_at(doors, place) {
                 self.turn = place.saturating_add(1);
                 return Some(event);
             }
@@ -248,10 +294,11 @@ impl<'a, R: Machine> Hall<'a, R> {
     }
 
     /// The next one who waits comes in, and it is kept whether anybody did.
-    fn accept(&mut self) -> Option<Option<Event<R>>>
-        ensures { self.new.came ≡ is_some result }
+    fn accept(&mut self, doors: &[Door]) -> Option<Option<Event<R>>>
+        ensures kept { self.new.came ≡ is_some result }
+        ensures came { CameBy doors.now result }
     {
-        let event = self.accept_next();
+        let event = self.accept_next(doors);
         self.came = event.is_some();
         event
     }
@@ -269,13 +316,16 @@ impl<'a, R: Machine> Hall<'a, R> {
         true
     }
 
-    /// The next event.
-    pub fn next(&mut self) -> Event<R> {
+    /// The next event. Who comes in by a door acts for its principal, and shares what is that principal's.
+    pub fn next(&mut self) -> Event<R>
+        ensures { LedBy self.old.doors.now result }
+    {
         if self.stop {
             return Event::Stops;
         }
+        let doors = self.doors;
         for _ in 0..MOST {
-            match self.accept() {
+            match self.accept(doors) {
                 Some(Some(event)) => return event,
                 Some(None) if self.stop => return Event::Stops,
                 Some(None) => {}
@@ -324,17 +374,5 @@ impl<'a, R: Machine> Hall<'a, R> {
         self.guests.shut(Shutdown::Both);
         let Hall { rt, guests, .. } = self;
         guests.join(&rt);
-    }
-}
-
-/// What came of reading the policy's file again stands on standard error.
-fn note_reload<R: Eprint>(rt: &R, came: &Reloaded) {
-    match came {
-        Reloaded::Same => {}
-        Reloaded::InForce(text) => report(rt, text.as_str()),
-        Reloaded::Refused(text) => {
-            let _ = eprintln!(rt; "policy refused: {text}");
-        }
-        Reloaded::NoMemory => report(rt, "policy refused: no memory"),
     }
 }

@@ -5,10 +5,14 @@
 #![tactic(auto)]
 
 mod bells;
+mod budgets;
+mod descriptors;
 mod doors;
 mod fault;
+mod folders;
 mod guests;
 mod hall;
+mod memory;
 mod orders;
 mod places;
 mod serving;
@@ -16,8 +20,9 @@ mod share;
 
 pub use bells::{Bells, Watch};
 pub use doors::{Door, close_doors, open_doors};
-pub use fault::DoorFault;
+pub use fault::{DoorFault, DoorRefusal, PlaceFault};
 pub use hall::{Event, Hall};
+pub use memory::DoorMemory;
 pub use places::{Owner, Place, Plan, mode_in, place_in};
 pub use serving::{AskedBounds, Begun, Entering, Reloaded, Returned, Serving};
 pub use share::{Share, Usual};

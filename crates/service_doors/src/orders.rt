@@ -5,19 +5,23 @@ ghost use Rattle.std.specs.Prelude.{◌≡◌, ◌++◌, OnOk};
 
 use crate::fault::DoorFault;
 use crate::guests::Guest;
-use crate::hall::{Event, Hall};
+use crate::hall::Hall;
 use crate::serving::Reloaded;
 use driver_service::Reason;
 use program_parts::{Machine, SECOND, ticks};
 use service_records::{Answer, Request, first_record};
 use service_streams::dismiss;
 use std::alloc::Global;
+use std::io;
 use std::io::{ErrorKind, Read, Write};
 use std::os::unix::net::UnixStream;
-use std::time::Duration;
+use std::time::{Clock, Duration};
 
-/// How long an operator may take to ask, in milliseconds.
-const ASKING: u64 = 200;
+/// How long an operator may take in all to ask and to read the answer, in nanoseconds.
+const ASKING: u64 = 200_000_000;
+
+/// How long one read or write may take at least, in nanoseconds: a stream knows no shorter time.
+const MOMENT: u64 = 1_000_000;
 
 /// How often is read until a request is there, at most.
 const READS: usize = 64;
@@ -27,6 +31,55 @@ enum Asked {
     NotYet,
     For(Request),
     Nothing,
+}
+
+/// The stream of an operator, who has until a moment for all that comes and goes on it: nobody else comes in meanwhile.
+#[derive(Drop)]
+struct Hurried<R: Clock + Copy + Drop> {
+    rt: R,
+    stream: UnixStream,
+    /// The moment, in nanoseconds of the machine's clock.
+    end: u64,
+}
+
+impl<R: Clock + Copy + Drop> Hurried<R> {
+    /// From now on.
+    fn new(rt: R, stream: UnixStream) -> Hurried<R> {
+        let end = ticks(&rt).saturating_add(ASKING);
+        Hurried { rt, stream, end }
+    }
+
+    /// How long the next read or write may take.
+    ///
+    /// # Errors
+    /// The time is over.
+    fn left(&self) -> io::Result<Option<Duration>> {
+        let left = self.end.saturating_sub(ticks(&self.rt));
+        if left == 0 {
+            return Err(ErrorKind::TimedOut.into());
+        }
+        Ok(Some(Duration::from_nanos(left.max(MOMENT))))
+    }
+}
+
+impl<R: Clock + Copy + Drop> Read for Hurried<R> {
+    fn read(&mut self, buf: &mut [u8]) -> io::Result<usize> {
+        let left = self.left()?;
+        self.stream.set_read_timeout(left)?;
+        self.stream.read(buf)
+    }
+}
+
+impl<R: Clock + Copy + Drop> Write for Hurried<R> {
+    fn write(&mut self, buf: &[u8]) -> io::Result<usize> {
+        let left = self.left()?;
+        self.stream.set_write_timeout(left)?;
+        self.stream.write(buf)
+    }
+
+    fn flush(&mut self) -> io::Result<()> {
+        self.stream.flush()
+    }
 }
 
 /// What the first record of some bytes asks for.
@@ -102,21 +155,22 @@ fn put_reload(came: &Reloaded, out: &mut Vec<u8>) -> Result<(), DoorFault> {
 }
 
 /// Records go to an operator, or that there was no memory for them.
-fn send(alloc: Global, stream: UnixStream, put: Result<(), DoorFault>, out: &[u8]) {
-    let mut stream = stream;
+fn send<T: Write>(alloc: Global, stream: &mut T, put: Result<(), DoorFault>, out: &[u8]) {
     match put {
         Ok(()) => {
             let _ = stream.write_all(out);
         }
-        Err(_) => dismiss(alloc, &mut stream, Reason::NoMemory),
+        Err(_) => dismiss(alloc, stream, Reason::NoMemory),
     }
 }
 
 /// An operator is told what came of reading the policy's file again.
-pub(crate) fn tell_reload(alloc: Global, stream: UnixStream, came: &Reloaded) {
+pub(crate) fn tell_reload<R: Machine>(rt: R, stream: UnixStream, came: &Reloaded) {
+    let alloc = rt.alloc();
     let mut out = Vec::new(alloc);
     let put = put_reload(came, &mut out);
-    send(alloc, stream, put, out.as_slice());
+    let mut stream = Hurried::new(rt, stream);
+    send(alloc, &mut stream, put, out.as_slice());
 }
 
 impl<R: Machine> Hall<'_, R> {
@@ -163,19 +217,19 @@ impl<R: Machine> Hall<'_, R> {
         }
     }
 
-    /// An operator asks once, and is answered; that the policy's file be read again is an event.
-    pub(crate) fn hear(&mut self, stream: UnixStream) -> Option<Event<R>> {
-        let mut stream = stream;
+    /// An operator asks once, and is answered. One who asks that the policy's file be read again is answered later.
+    pub(crate) fn hear(&mut self, stream: UnixStream) -> Option<UnixStream> {
         let alloc = self.rt.alloc();
-        let limit = Some(Duration::from_millis(ASKING));
-        let _ = stream.set_read_timeout(limit);
-        let _ = stream.set_write_timeout(limit);
+        let mut stream = Hurried::new(self.rt, stream);
         match request_of(alloc, &mut stream) {
-            Some(Request::Reload) => return Some(Event::Asks(stream)),
+            Some(Request::Reload) => {
+                let Hurried { stream, .. } = stream;
+                return Some(stream);
+            }
             Some(request) => {
                 let mut out = Vec::new(alloc);
                 let put = self.obey(request, &mut out);
-                send(alloc, stream, put, out.as_slice());
+                send(alloc, &mut stream, put, out.as_slice());
             }
             None => dismiss(alloc, &mut stream, Reason::UnknownRequest),
         }

@@ -1,7 +1,10 @@
 //! Where a socket is, and who may enter by it: what the words of the command line say of that.
 
-ghost use Rattle.service_doors.specs.Places.{IsMode, mode_for};
-ghost use Rattle.std.specs.Prelude.{◌≡◌, IfSome};
+ghost use Rattle.door_names.specs.Names.{is_name};
+ghost use Rattle.service_doors.specs.Places.{IsMode, IsPlain, mode_for};
+ghost use Rattle.std.specs.Prelude.{◌≡◌, IfSome, true};
+
+use door_names::{is_name, is_path};
 
 /// Who may enter by a socket: the user of this number, and the group of that one where one is named.
 #[derive(Clone, Copy, Debug, PartialEq, Eq)]
@@ -54,14 +57,33 @@ fn owner_in(text: &str) -> Option<Owner> {
     }
 }
 
-/// What a word `NAME`, `NAME=UID`, `NAME=UID:GID` or `NAME=PATH` says: the name of a principal, and where its door is. A path
-/// has a `/`.
-pub fn place_in(word: &str) -> Option<(&str, Place<'_>)> {
-    match word.split_once('=') {
-        Some((name, path)) if path.contains('/') => Some((name, Place::At(path))),
-        Some((name, owner)) => Some((name, Place::Own(Some(owner_in(owner)?)))),
-        None => Some((word, Place::Own(None))),
+/// Where a word `UID`, `UID:GID` or `PATH` says that a door is. A path has a `/`.
+fn place_of(word: &str) -> Option<Place<'_>>
+    ensures { IfSome result IsPlain }
+{
+    if !word.contains('/') {
+        return Some(Place::Own(Some(owner_in(word)?)));
     }
+    if !is_path(word) {
+        return None;
+    }
+    Some(Place::At(word))
+}
+
+/// What a word `NAME`, `NAME=UID`, `NAME=UID:GID` or `NAME=PATH` says: the name of a principal, and where its door is. `None`
+/// also where that name names no door, or the path is that of none.
+pub fn place_in(word: &str) -> Option<(&str, Place<'_>)>
+    ensures name { IfSome result (λ said. is_name said.0.now ≡ true) }
+    ensures place { IfSome result (λ said. IsPlain said.1) }
+{
+    let (name, place) = match word.split_once('=') {
+        Some((name, place)) => (name, place_of(place)?),
+        None => (word, Place::Own(None)),
+    };
+    if !is_name(name) {
+        return None;
+    }
+    Some((name, place))
 }
 
 /// The mode of a socket in the driver's folder: its owner may enter, and its group where one is named.

@@ -1,9 +1,10 @@
 //! How a driver is to serve, and what it serves with.
 
-ghost use Rattle.service_doors.specs.Serving.{bounds_for};
+ghost use Rattle.service_doors.specs.Serving.{bounds_for, each_for};
 ghost use Rattle.std.specs.Prelude.{◌≡◌};
 
 use crate::bells::Bells;
+use crate::guests::CLIENTS;
 use crate::share::{Share, Usual};
 use driver_service::Reason;
 use program_parts::Machine;
@@ -19,9 +20,14 @@ const SUBSCRIPTIONS: u64 = 512;
 
 const COUNTERS: u64 = 1_024;
 
+/// How many commands wait in its queue at most.
+const COMMANDS: u64 = 1_024;
+
 /// The bounds that were asked for.
 #[derive(Clone, Copy, Debug, PartialEq, Eq)]
 pub struct AskedBounds {
+    /// How many clients a principal may have at once.
+    pub each: Option<u64>,
     pub publications: Option<u64>,
     pub pages: Option<u64>,
     pub subscriptions: Option<u64>,
@@ -29,6 +35,15 @@ pub struct AskedBounds {
 }
 
 impl AskedBounds {
+    /// How many clients each of so many doors may have at once: an equal part of all, and one at least, where nothing else was
+    /// asked.
+    pub fn each(&self, doors: u64) -> u64
+        ensures { result ≡ each_for self.now doors }
+    {
+        let part = CLIENTS as u64 / doors.max(1);
+        self.each.unwrap_or(part.max(1))
+    }
+
     /// What each of so many doors may have: an equal part of all where nothing else was asked. All logs share so many pages.
     pub fn bounds(&self, pages: u64, doors: u64) -> Bounds
         ensures { result ≡ bounds_for self.now pages doors }
@@ -39,6 +54,7 @@ impl AskedBounds {
             pages: self.pages.unwrap_or(pages / doors),
             subscriptions: self.subscriptions.unwrap_or(SUBSCRIPTIONS / doors),
             counters: self.counters.unwrap_or(COUNTERS / doors),
+            commands: (COMMANDS / doors).max(1),
         }
     }
 }
@@ -78,7 +94,7 @@ pub struct Begun {
 #[derive(Clone, Copy, Debug, PartialEq, Eq)]
 pub struct Returned {
     pub number: u64,
-    /// Whether it ended the driver, as the policy lets it.
+    /// Whether the driver was ended.
     pub ended: bool,
 }
 

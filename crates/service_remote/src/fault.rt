@@ -12,11 +12,26 @@ pub enum RemoteFault {
     Part(PartFault),
     #[error("no driver serves there")]
     NoDriver,
+    /// The system lets somebody else in at that socket, whose owner is that user.
+    #[error("permission denied: socket of user {0}")]
+    NotOurs(u32),
+    /// The system does not even say whose socket is there, if one is.
+    #[error("permission denied")]
+    Unseen,
     #[error("the driver speaks another protocol")]
     Protocol,
-    /// The connection ended without a word.
+    /// The driver let the client go, for which nothing was heard of it.
     #[error("client gone")]
+    Gone,
+    /// The connection ended without a word: the driver was killed, or cut it off.
+    #[error("the driver ended")]
     Closed,
+    /// The connection stands, and nothing came for as long as an answer may take.
+    #[error("the driver does not answer")]
+    Late,
+    /// The driver said that it stops.
+    #[error("the driver stopped")]
+    Stopped,
     /// A command was not answered.
     #[error("no client")]
     NoClient,

@@ -3,17 +3,22 @@
 use crate::fault::RemoteFault;
 use crate::remote::Remote;
 use command_codec::Body;
+use policy_tools::plain;
 use program_parts::{Disk, Machine, SECOND, ticks};
 use service_records::{Answer, Request};
+use std::alloc::Global;
 use std::time::Duration;
 use std::{str, thread};
 
 /// The head of the columns.
 const HEAD: &str = "    NUMBER       TYPE                 VALUE  LABEL";
 
-/// A line is printed.
-pub(crate) fn print_line<R: Print>(rt: &R, line: &str) -> Result<(), RemoteFault> {
-    match rt.println(line) {
+/// A line is printed, whose bytes others may have chosen.
+pub(crate) fn print_line<R: Print>(rt: &R, alloc: Global, line: &[u8]) -> Result<(), RemoteFault> {
+    let Ok(line) = str::from_utf8(line) else {
+        return Err(RemoteFault::Protocol);
+    };
+    match rt.println(plain(alloc, line)?.as_str()) {
         Ok(()) => Ok(()),
         Err(_) => Err(RemoteFault::WRITE),
     }
@@ -22,6 +27,7 @@ pub(crate) fn print_line<R: Print>(rt: &R, line: &str) -> Result<(), RemoteFault
 /// A counter is printed.
 fn print_row<R: Print>(
     rt: &R,
+    alloc: Global,
     number: u64,
     type_id: i32,
     value: i64,
@@ -30,6 +36,7 @@ fn print_row<R: Print>(
     let Ok(label) = str::from_utf8(label) else {
         return Err(RemoteFault::Protocol);
     };
+    let label = plain(alloc, label)?;
     match println!(rt; "{number:>10} {type_id:>10} {value:>21}  {label}") {
         Ok(()) => Ok(()),
         Err(_) => Err(RemoteFault::WRITE),
@@ -40,14 +47,14 @@ fn print_row<R: Print>(
 fn print_rows<R: Print>(rt: &R, remote: &mut Remote) -> Result<(), RemoteFault> {
     remote.ask(Request::List, &[])?;
     remote.flush()?;
-    print_line(rt, HEAD)?;
+    print_line(rt, remote.alloc, HEAD.as_bytes())?;
     for _ in 0..u64::MAX {
         match remote.answer()? {
             Answer::Row {
                 number,
                 type_id,
                 value,
-            } => print_row(rt, number, type_id, value, remote.tail())?,
+            } => print_row(rt, remote.alloc, number, type_id, value, remote.tail())?,
             Answer::Done { .. } => return Ok(()),
             Answer::Refused { .. } => return Err(remote.refusal()),
             _ => return Err(RemoteFault::Protocol),

@@ -5,7 +5,6 @@ use crate::looking::print_line;
 use crate::remote::Remote;
 use program_parts::Disk;
 use service_records::{Answer, Request};
-use std::str;
 
 /// An operator asks once, and the lines that answer it are printed.
 pub fn print_order<R: Print, F: Disk>(
@@ -19,10 +18,7 @@ pub fn print_order<R: Print, F: Disk>(
     remote.flush()?;
     for _ in 0..u64::MAX {
         match remote.answer()? {
-            Answer::Line => match str::from_utf8(remote.tail()) {
-                Ok(line) => print_line(rt, line)?,
-                Err(_) => return Err(RemoteFault::Protocol),
-            },
+            Answer::Line => print_line(rt, remote.alloc, remote.tail())?,
             Answer::Done { .. } => return Ok(()),
             Answer::Refused { .. } => return Err(remote.refusal()),
             _ => return Err(RemoteFault::Protocol),

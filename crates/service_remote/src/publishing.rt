@@ -7,12 +7,14 @@ use piped_messages::Cut;
 use program_parts::{Disk, Input, Machine, SECOND, ticks};
 use service_records::{Answer, Request};
 use std::alloc::Global;
+use std::mem::swap;
 
-/// How many messages go at once, at most.
+/// How many messages go at once, at most. So many more go before the answers to these are read: they take less than the 64 KiB
+/// of answers for which a driver waits.
 const BATCH: usize = 512;
 
 /// How many bytes go at once, at most, but for one long message.
-const BYTES: usize = 131_072;
+const BYTES: usize = 262_144;
 
 /// How long a message may wait in the driver, in milliseconds.
 const WAIT: u32 = 500;
@@ -65,16 +67,31 @@ impl Batch {
         self.bytes.get(from..to).unwrap_or(&[])
     }
 
-    /// Takes the next messages of the input.
+    fn is_full(&self) -> bool {
+        self.ends.len() >= BATCH || self.bytes.len() >= BYTES
+    }
+
+    /// Takes the next messages that were read.
     fn take(&mut self, input: &mut Input) -> Result<(), RemoteFault> {
         for _messages in 0..BATCH {
+            if self.is_full() {
+                return Ok(());
+            }
             let Some((message, rest)) = input.message() else {
                 return Ok(());
             };
             self.bytes.extend_from_slice(message)?;
             self.ends.push(self.bytes.len())?;
             input.pass(rest);
-            if self.bytes.len() >= BYTES {
+        }
+        Ok(())
+    }
+
+    /// Takes messages of the input until it is full, or no more is there.
+    fn fill(&mut self, input: &mut Input) -> Result<(), RemoteFault> {
+        for _chunks in 0..BATCH {
+            self.take(input)?;
+            if self.is_full() || !input.take()? {
                 return Ok(());
             }
         }
@@ -196,7 +213,28 @@ fn stay(remote: &mut Remote, heard: &mut u64, now: u64) -> Result<(), RemoteFaul
     Ok(())
 }
 
-/// Standard input goes to the driver, up to its end.
+/// The answers to a batch are taken, behind which another one was offered. Where a message of it was refused, all after that were
+/// skipped, those of the other one too, and are offered again.
+fn settle<R: Machine>(
+    rt: &R,
+    remote: &mut Remote,
+    asked: &mut Batch,
+    next: &mut Batch,
+    gone: &mut Gone,
+    wait: u64,
+) -> Result<(), RemoteFault> {
+    let Some(refused) = take_answers(remote, asked, gone)? else {
+        return Ok(());
+    };
+    let _ = take_answers(remote, next, gone)?;
+    if !may_pass(refused.code) {
+        return Err(refused.fault);
+    }
+    offer_all(rt, remote, asked, gone, wait)?;
+    ask_batch(remote, next, gone)
+}
+
+/// Standard input goes to the driver, up to its end: a batch is offered before the answers to the one before it are read.
 fn send_on<R: Machine>(
     rt: &R,
     remote: &mut Remote,
@@ -204,18 +242,19 @@ fn send_on<R: Machine>(
     gone: &mut Gone,
     wait: u64,
 ) -> Result<(), RemoteFault> {
-    let mut batch = Batch::new(rt.alloc());
+    let mut asked = Batch::new(rt.alloc());
+    let mut next = Batch::new(rt.alloc());
     let mut idle = 0u32;
     let mut heard = ticks(rt);
     for _ in rt.forever() {
-        batch.clear();
-        batch.take(input)?;
-        if !batch.is_done() {
+        next.clear();
+        next.fill(input)?;
+        ask_batch(remote, &next, gone)?;
+        settle(rt, remote, &mut asked, &mut next, gone, wait)?;
+        swap(&mut asked, &mut next);
+        if !asked.is_done() {
             idle = 0;
             heard = ticks(rt);
-            offer_all(rt, remote, &mut batch, gone, wait)?;
-        } else if input.take()? {
-            idle = 0;
         } else if input.has_ended() {
             return Ok(());
         } else {

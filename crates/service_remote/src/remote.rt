@@ -7,12 +7,15 @@ use crate::fault::RemoteFault;
 use program_parts::Disk;
 use service_records::{Answer, Request, first_record};
 use std::alloc::Global;
-use std::io::{ErrorKind, Read, Write};
+use std::fs;
+use std::io::{self, ErrorKind, Read, Write};
+use std::mem::swap;
+use std::os::unix::fs::MetadataExt;
 use std::os::unix::net::UnixStream;
 use std::time::Duration;
 
 /// How many bytes are read at once, at most.
-const CHUNK: usize = 65_536;
+const CHUNK: usize = 262_144;
 
 /// How long an answer may take, in seconds.
 pub(crate) const PATIENCE: u64 = 30;
@@ -23,6 +26,8 @@ struct Incoming {
     bytes: Vec<u8>,
     at: usize,
     tail_at: usize,
+    /// Where what is left goes before more that comes. It and `bytes` change places, so that no bytes move within either.
+    spare: Vec<u8>,
     chunk: Vec<u8>,
 }
 
@@ -40,13 +45,39 @@ pub(crate) struct Remote {
     pub(crate) correlation: u64,
 }
 
+/// The code with which a driver that stops lets a client go.
+const STOPPED: i32 = 1010;
+
+/// Why the system let nobody connect there.
+fn unconnected<F: Disk>(files: &F, path: &str, error: &io::Error) -> RemoteFault {
+    if error.kind() != ErrorKind::PermissionDenied {
+        return RemoteFault::NoDriver;
+    }
+    match fs::metadata(files, path) {
+        Ok(found) => RemoteFault::NotOurs(found.uid()),
+        Err(_) => RemoteFault::Unseen,
+    }
+}
+
 /// Connects, and lets no answer take too long.
-fn connected<F: Disk>(files: &F, path: &str) -> Option<UnixStream> {
-    let stream = UnixStream::connect(files, path).ok()?;
-    stream
-        .set_read_timeout(Some(Duration::from_secs(PATIENCE)))
-        .ok()?;
-    Some(stream)
+fn connected<F: Disk>(files: &F, path: &str) -> Result<UnixStream, RemoteFault> {
+    let stream = match UnixStream::connect(files, path) {
+        Ok(stream) => stream,
+        Err(error) => return Err(unconnected(files, path, &error)),
+    };
+    match stream.set_read_timeout(Some(Duration::from_secs(PATIENCE))) {
+        Ok(()) => Ok(stream),
+        Err(_) => Err(RemoteFault::NoDriver),
+    }
+}
+
+/// Nothing was read for that. Whether it is read on.
+fn unread(kind: ErrorKind) -> Result<(), RemoteFault> {
+    match kind {
+        ErrorKind::Interrupted => Ok(()),
+        ErrorKind::WouldBlock | ErrorKind::TimedOut => Err(RemoteFault::Late),
+        _ => Err(RemoteFault::Closed),
+    }
 }
 
 impl Incoming {
@@ -55,21 +86,28 @@ impl Incoming {
             bytes: Vec::new(alloc),
             at: 0,
             tail_at: 0,
+            spare: Vec::new(alloc),
             chunk: vec![in alloc; 0u8; CHUNK]?,
         })
     }
 
     /// What was read as records is let go.
-    fn settle(&mut self) {
-        let at = self.at.min(self.bytes.len());
-        let _ = self.bytes.drain(..at);
-        self.at = 0;
+    fn settle(&mut self) -> Result<(), RemoteFault> {
         self.tail_at = 0;
+        if self.at == 0 {
+            return Ok(());
+        }
+        self.spare.clear();
+        let left = self.bytes.get(self.at..).unwrap_or(&[]);
+        self.spare.extend_from_slice(left)?;
+        swap(&mut self.bytes, &mut self.spare);
+        self.at = 0;
+        Ok(())
     }
 
     /// More bytes come.
     fn fill<T: Read>(&mut self, stream: &mut T) -> Result<(), RemoteFault> {
-        self.settle();
+        self.settle()?;
         match stream.read(self.chunk.as_mut_slice()) {
             Ok(0) => Err(RemoteFault::Closed),
             Ok(count) => {
@@ -77,8 +115,7 @@ impl Incoming {
                 self.bytes.extend_from_slice(more)?;
                 Ok(())
             }
-            Err(error) if error.kind() == ErrorKind::Interrupted => Ok(()),
-            Err(_) => Err(RemoteFault::Closed),
+            Err(error) => unread(error.kind()),
         }
     }
 
@@ -110,12 +147,9 @@ impl Incoming {
 impl Remote {
     pub(crate) fn open<F: Disk>(files: &F, path: &str) -> Result<Remote, RemoteFault> {
         let alloc = files.alloc();
-        let Some(stream) = connected(files, path) else {
-            return Err(RemoteFault::NoDriver);
-        };
         Ok(Remote {
             alloc,
-            stream,
+            stream: connected(files, path)?,
             out: Vec::new(alloc),
             incoming: Incoming::new(alloc)?,
             client: 0,
@@ -152,20 +186,39 @@ impl Remote {
         self.out.clear();
         match written {
             Ok(()) => Ok(()),
-            Err(_) => Err(RemoteFault::Closed),
+            Err(_) => Err(self.last_words()),
         }
+    }
+
+    /// Why the connection ended, at which nothing can be written any more: what the driver said last.
+    fn last_words(&mut self) -> RemoteFault {
+        for _ in 0..u64::MAX {
+            if let Err(fault) = self.answer() {
+                return fault;
+            }
+        }
+        RemoteFault::Closed
     }
 
     /// The next answer. One that says that the connection ends is a fault.
     pub(crate) fn answer(&mut self) -> Result<Answer, RemoteFault> {
         for _ in 0..u64::MAX {
             match self.incoming.first()? {
-                Some(Answer::Bye { .. }) => return Err(self.refusal()),
+                Some(Answer::Bye { code }) => return Err(self.farewell(code)),
                 Some(answer) => return Ok(answer),
                 None => self.incoming.fill(&mut self.stream)?,
             }
         }
         Err(RemoteFault::Protocol)
+    }
+
+    /// Why the connection ends, as the last answer says by that code.
+    fn farewell(&self, code: i32) -> RemoteFault {
+        if code == STOPPED {
+            RemoteFault::Stopped
+        } else {
+            self.refusal()
+        }
     }
 
     /// The tail of the last answer.

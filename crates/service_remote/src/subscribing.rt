@@ -59,7 +59,7 @@ fn note<R: Eprint>(
         Reply::UnavailableImage(image) if image.subscription == subscription => {
             images.remove(image.source);
         }
-        Reply::ClientTimeout(_) => return Err(RemoteFault::Closed),
+        Reply::ClientTimeout(_) => return Err(RemoteFault::Gone),
         _ => {}
     }
     Ok(())
@@ -138,6 +138,9 @@ struct Came {
     gone: Option<u64>,
     /// Whether one could not be looked at.
     is_unseen: bool,
+    /// How many there are up to the last one of which something was told. Those after it may not have been polled, where the
+    /// answer is long.
+    told: usize,
 }
 
 /// A fragment came, whose bytes are the last tail.
@@ -168,11 +171,15 @@ fn take_parts(
         any: false,
         gone: None,
         is_unseen: false,
+        told: 0,
     };
     let mut at = usize::MAX;
     for _ in 0..u64::MAX {
         match remote.answer()? {
-            Answer::Part { place } => at = place as usize,
+            Answer::Part { place } => {
+                at = place as usize;
+                came.told = at.saturating_add(1);
+            }
             Answer::Fragment { position, flags } => {
                 let Some(image) = images.get_mut(at) else {
                     return Err(RemoteFault::Protocol);
@@ -197,47 +204,53 @@ fn take_parts(
 struct Turn {
     /// Whether anything came.
     any: bool,
-    /// The place of the stream that is polled first in the next one.
-    next: usize,
     /// How long replies are waited for where nothing came, in milliseconds.
     patience: u32,
 }
 
-/// Streams are polled by one request, from that place on: all that there are, if it can name them. What came is printed.
+/// So many streams were polled, of which this was told. Those that come after the last one of which something came are the first
+/// of the next request, so that none is always the last.
+fn turn_on(rows: &mut Vec<Image>, count: usize, came: Came) {
+    let done = if came.told > 0 { came.told } else { count };
+    let done = done.min(rows.len());
+    if done < rows.len() {
+        rows.as_mut_slice().rotate_left(done);
+    }
+}
+
+/// Streams are polled by one request: all that there are, if it can name them. What came before is printed.
 fn poll_next<R: Print>(
     rt: &R,
     remote: &mut Remote,
     images: &mut Images,
     inbox: &mut Inbox,
     subscription: u64,
-    at: usize,
 ) -> Result<Turn, RemoteFault> {
     let streams = images.rows.len();
-    let from = if at < streams { at } else { 0 };
-    let count = polled(streams.saturating_sub(from), inbox.left);
-    let next = from.saturating_add(count);
+    let count = polled(streams, inbox.left);
     if count == 0 {
+        inbox.flush(rt)?;
         return Ok(Turn {
             any: false,
-            next,
             patience: PATIENCE,
         });
     }
     let is_whole = count == streams;
     let wait = if is_whole { WAIT } else { 0 };
     let Images { rows, read, .. } = images;
-    let rows = &mut rows.as_mut_slice()[from..next];
-    ask_poll(remote, rows, subscription, limit(count, inbox.left), wait)?;
+    let asked = &mut rows.as_mut_slice()[..count];
+    ask_poll(remote, asked, subscription, limit(count, inbox.left), wait)?;
     remote.flush()?;
-    let came = take_parts(remote, rows, read, inbox)?;
+    // while the driver polls
+    inbox.flush(rt)?;
+    let came = take_parts(remote, asked, read, inbox)?;
+    turn_on(rows, count, came);
     if let Some(source) = came.gone {
         images.remove(source);
     }
-    inbox.flush(rt)?;
     let has_waited = is_whole && !came.is_unseen;
     Ok(Turn {
         any: came.any,
-        next,
         patience: if has_waited { 0 } else { 1 },
     })
 }
@@ -251,13 +264,11 @@ fn receive<R: Machine>(
     subscription: u64,
     until_gone: bool,
 ) -> Result<(), RemoteFault> {
-    let mut at = 0;
     for _ in rt.forever() {
-        let turn = poll_next(rt, remote, images, inbox, subscription, at)?;
+        let turn = poll_next(rt, remote, images, inbox, subscription)?;
         if inbox.left == 0 {
             return Ok(());
         }
-        at = turn.next;
         if !turn.any {
             take_replies(rt, remote, images, subscription, turn.patience)?;
         }

@@ -1,3 +1,4 @@
 pub mod Acting
-pub mod Streams
+pub mod Long
 pub mod Order
+pub mod Streams

@@ -2,7 +2,9 @@
 //! the stream or the client ends.
 #![tactic(auto)]
 
+mod long;
 mod talking;
 mod writing;
 
+pub use long::LongRecords;
 pub use talking::{Ended, Greeting, dismiss, talk};

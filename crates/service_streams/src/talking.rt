@@ -5,6 +5,7 @@ ghost use Rattle.service_streams.specs.Order.{AnswersFirst, AnswersInOrder, Ends
 ghost use Rattle.service_streams.specs.Streams.{AppendsFront, Drains, Flushes, Reads};
 ghost use Rattle.std.specs.Prelude.{◌≡◌, ◌++◌, [], drop, IfOk, OnErr, OnOk};
 
+use crate::long::{LONG, LongRecords, long_in};
 use crate::writing::write_whole;
 use driver_service::{Connection, Pauses, Reason, Seat};
 use service_records::{Answer, first_record};
@@ -15,7 +16,7 @@ use std::sync::Wait;
 use std::time::Clock;
 
 /// How many bytes are read at once, at most.
-const CHUNK: usize = 65_536;
+const CHUNK: usize = 131_072;
 
 /// How many bytes of answers may stand before they are written.
 const FULL: usize = 65_536;
@@ -48,12 +49,17 @@ pub struct Greeting {
 /// What was read and not answered yet, from `at` on, and what is to be written.
 #[derive(Drop)]
 struct Buffers {
+    alloc: Global,
     input: Vec<u8>,
     at: usize,
+    /// Where what is left goes before more that comes. It and `input` change places, so that no bytes move within either.
+    spare: Vec<u8>,
     chunk: Vec<u8>,
     /// The answer to one record, until all of it is there.
     answer: Vec<u8>,
     out: Vec<u8>,
+    /// How many bytes the long record takes that has begun, for which there is memory; 0 where none has.
+    long: u64,
 }
 
 /// The bytes from that place on.
@@ -64,17 +70,6 @@ fn rest_of(bytes: &[u8], at: usize) -> &[u8]
         return &[];
     }
     bytes.split_at(at).1
-}
-
-/// The bytes before that place are let go.
-fn forget(bytes: &mut Vec<u8>, at: usize)
-    ensures { bytes.new.items ≡ drop at bytes.old.items }
-{
-    if at >= bytes.len() {
-        bytes.clear();
-        return;
-    }
-    let _ = bytes.drain(..at);
 }
 
 /// A whole answer goes behind those that are to be written. Where there is no memory for it, nothing of it does.
@@ -94,11 +89,14 @@ impl Buffers {
         ensures { IfOk result (λ buffers. (buffers.input.items ≡ []) × (buffers.at ≡ 0) × (buffers.out.items ≡ [])) }
     {
         Ok(Buffers {
+            alloc,
             input: Vec::with_capacity(alloc, CHUNK)?,
             at: 0,
+            spare: Vec::with_capacity(alloc, CHUNK)?,
             chunk: vec![in alloc; 0u8; CHUNK]?,
             answer: Vec::new(alloc),
             out: Vec::with_capacity(alloc, FULL)?,
+            long: 0,
         })
     }
 
@@ -127,13 +125,66 @@ impl Buffers {
         self.flush(stream)
     }
 
-    /// What was answered is let go, and more is read.
-    fn read<T: Read>(&mut self, stream: &mut T) -> Result<(), Ended>
+    /// What was answered is let go, and the room that a long record took.
+    fn settle(&mut self) -> Result<(), AllocError>
+        ensures left { OnOk result (self.new.input.items ≡ drop self.old.at self.old.input.items) }
+        ensures front { OnOk result (self.new.at ≡ 0) }
+        ensures out { self.new.out.items ≡ self.old.out.items }
+    {
+        if self.at == 0 {
+            return Ok(());
+        }
+        self.spare.clear();
+        let left = rest_of(self.input.as_slice(), self.at);
+        self.spare.extend_from_slice(left)?;
+        swap(&mut self.input, &mut self.spare);
+        self.at = 0;
+        if self.spare.capacity() > LONG {
+            self.spare = Vec::new(self.alloc);
+        }
+        Ok(())
+    }
+
+    /// There is memory for a long record, as one has begun now. Whether there is; none is kept where the record before was long, and
+    /// this one is not.
+    fn keep_room<P: LongRecords>(&mut self, pauses: &mut P) -> bool
+        ensures input { self.new.input.items ≡ self.old.input.items }
+        ensures at { self.new.at ≡ self.old.at }
+        ensures out { self.new.out.items ≡ self.old.out.items }
+    {
+        let left = rest_of(self.input.as_slice(), self.at);
+        let (long, there) = (long_in(left), left.len());
+        if long == self.long {
+            return true;
+        }
+        if self.long > 0 {
+            pauses.end_long();
+        }
+        self.long = long;
+        if long == 0 {
+            return true;
+        }
+        if !pauses.begin_long(long) {
+            return false;
+        }
+        // One block of that size, so that it takes no more while it grows. Where there is none, the read finds that out.
+        let _ = self
+            .input
+            .reserve_exact((long as usize).saturating_sub(there));
+        true
+    }
+
+    /// What was answered is let go, and more is read, where there is memory for a long record.
+    fn read<T: Read, P: LongRecords>(&mut self, stream: &mut T, pauses: &mut P) -> Result<(), Ended>
         ensures reads { Reads result (T.remaining stream.old) (T.remaining stream.new) (drop self.old.at self.old.input.items) (drop self.new.at self.new.input.items) }
         ensures out { self.new.out.items ≡ self.old.out.items }
     {
-        forget(&mut self.input, self.at);
-        self.at = 0;
+        if self.settle().is_err() {
+            return Err(Ended::NoMemory);
+        }
+        if !self.keep_room(pauses) {
+            return Err(Ended::Closed);
+        }
         match stream.read(self.chunk.as_mut_slice()) {
             Ok(0) => Err(Ended::Closed),
             Ok(count) => {
@@ -259,7 +310,7 @@ fn greet(out: &mut Vec<u8>, greeting: Greeting) -> Result<(), AllocError>
 }
 
 /// Answers the records of a stream until it ends.
-fn talk_on<R: Clock + Wait, P: Pauses, S: Seat, T: Read + Write>(
+fn talk_on<R: Clock + Wait, P: Pauses + LongRecords, S: Seat, T: Read + Write>(
     rt: &R,
     stream: &mut T,
     pauses: &mut P,
@@ -273,7 +324,7 @@ fn talk_on<R: Clock + Wait, P: Pauses, S: Seat, T: Read + Write>(
         if let Err(ended) = answer_all(rt, stream, pauses, connection, buffers) {
             return ended;
         }
-        if let Err(ended) = buffers.read(stream) {
+        if let Err(ended) = buffers.read(stream, pauses) {
             if pauses.is_stopping() {
                 return Ended::Stopped;
             }
@@ -302,7 +353,7 @@ fn take_leave<T: Write>(alloc: Global, stream: &mut T, buffers: &mut Buffers, en
 /// it, it says why, after all that was answered; a record for whose answer there is no memory is answered by nothing else. Where
 /// the stream takes no more, it is [`Ended::Closed`], whatever else ended it.
 #[tactic(auto, using(crate::proofs::ActLemmas::no_acts, crate::proofs::OrderLemmas::nothing_said))]
-pub fn talk<R: Clock + Wait, P: Pauses, S: Seat, T: Read + Write>(
+pub fn talk<R: Clock + Wait, P: Pauses + LongRecords, S: Seat, T: Read + Write>(
     rt: &R,
     alloc: Global,
     stream: &mut T,

@@ -8,7 +8,7 @@ use Rattle.policy_core.specs.declared.verdict.Verdict.{Verdict}
 use Rattle.policy_core.specs.Verdict.{verdict_text}
 use Rattle.wire_causes.specs.declared.cause.Cause.{Cause}
 use Rattle.wire_causes.specs.declared.cause.Side.{Side}
-use Rattle.wire_causes.specs.declared.cause.Side.TheVariants.{Sends, Learns, Receives}
+use Rattle.wire_causes.specs.declared.cause.Side.TheVariants.{Sends, Learns, Receives, Serves}
 
 -- a NAK for what is sent again already keeps nothing back; a driver that receives counts the SETUP of a stream that it has not
 abbrev pub is_said : Side → Miss → Bool
@@ -16,6 +16,7 @@ is_said side Empty = false
 is_said side Lingering = false
 is_said side Busy = false
 is_said Receives NoStream = false
+is_said Serves NoStream = false
 is_said side miss = true
 
 abbrev pub cause_of : Side → Tally → Option Cause
@@ -31,6 +32,7 @@ what_of side NoMemory = codes "datagram from"
 what_of side NoStream = codes "NAK or status message from"
 what_of side OutOfWindow = codes "NAK or status message from"
 what_of Learns Denied = codes "NAK or status message from"
+what_of Serves Denied = codes "NAK or status message from"
 what_of Sends Denied = codes "NAK from"
 what_of Receives Denied = codes "NAK from"
 what_of side Empty = codes "NAK from"

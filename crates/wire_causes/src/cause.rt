@@ -13,6 +13,8 @@ pub enum Side {
     Learns,
     /// It receives.
     Receives,
+    /// It sends to whom its clients name, and to those that join, and it receives.
+    Serves,
 }
 
 /// Why something on the wire comes to nothing.
@@ -31,7 +33,7 @@ fn is_said(side: Side, miss: Miss) -> bool
     match miss {
         Miss::Empty | Miss::Lingering | Miss::Busy => false,
         Miss::NoStream => match side {
-            Side::Receives => false,
+            Side::Receives | Side::Serves => false,
             Side::Sends | Side::Learns => true,
         },
         _ => true,
@@ -49,7 +51,7 @@ fn what_of(side: Side, miss: Miss) -> &'static str
         Miss::Unread | Miss::Stranger | Miss::NoMemory => "datagram from",
         Miss::NoStream | Miss::OutOfWindow => "NAK or status message from",
         Miss::Denied => match side {
-            Side::Learns => "NAK or status message from",
+            Side::Learns | Side::Serves => "NAK or status message from",
             Side::Sends | Side::Receives => "NAK from",
         },
         Miss::Empty | Miss::Lingering | Miss::Busy => "NAK from",

@@ -158,6 +158,13 @@ impl Registry {
         self.moment
     }
 
+    /// Whether the driver was ended: it has no client and no log from then on.
+    pub fn is_stopped(&self) -> bool
+        ensures { result ≡ self.now.stopped }
+    {
+        self.stopped
+    }
+
     /// Whether a number is left that was not drawn yet.
     #[tactic(auto, unfolding(crate::specs::State::has_number))]
     pub(crate) fn has_number(&self) -> bool

@@ -9,13 +9,13 @@ returns-in-Ok g c =
     let kept = g.H.Held.kept in (
       refl,
       inl (comes_by g.N.Naming.home (kept c.args.slot.now) (kept c.packet-told.new.self) c.args.now c.args.from.now (content c.args.packet) c.args.request.now _
-          c.in-Ok.ensures.same c.holds.ensures.own c.holds-2.ensures.own c.in-Ok.ensures.moved c.in-Ok.ensures.decides),
+          c.in-Ok.ensures.same (record { own = c.holds.ensures.own; whole = c.holds.ensures.whole }) (record { own = c.holds-2.ensures.own; whole = c.holds-2.ensures.whole }) c.in-Ok.ensures.moved c.in-Ok.ensures.decides),
     )
 
 pub returns-in-Err : goal.returns-in-Err
 returns-in-Err g c = (
   ap (λ (it : Stepped). it.stamp) c.lacking.ensures,
   inr (lacks_by g.N.Naming.home (g.H.Held.kept c.args.slot.now) c.args.now c.args.from.now (content c.args.packet) c.args.request.now c.lacking.result
-      c.holds.ensures.own c.in-Err.ensures.without_memory
+      (record { own = c.holds.ensures.own; whole = c.holds.ensures.whole }) c.in-Err.ensures.without_memory
       (ap (λ (it : Stepped). it.answer) c.lacking.ensures) (ap (λ (it : Stepped). it.decision) c.lacking.ensures)),
 )

@@ -11,7 +11,7 @@ returns-in-Ok g c =
     let kept = g.H.Held.kept in
     subst (λ (r : Result Unit HeldLog). Opens (IsHold g.N.Naming.home) c.args.session c.args.stream c.args.log r) c.in-Ok.is
     (opens_in g.N.Naming.home c.args.session c.args.stream _ _ c.args.log c.open-opened.result (kept c.args.slot.now) (kept c.open-opened.new.self)
-    (to_z-of_z w32 c.args.session c.ranges.session) (to_z-of_z w32 c.args.stream c.ranges.stream) c.holds.ensures.own c.holds-2.ensures.own
+    (to_z-of_z w32 c.args.session c.ranges.session) (to_z-of_z w32 c.args.stream c.ranges.stream) (record { own = c.holds.ensures.own; whole = c.holds.ensures.whole }) (record { own = c.holds-2.ensures.own; whole = c.holds-2.ensures.whole })
     c.open-opened.ensures.free c.open-opened.ensures.opened c.open-opened.ensures.back)
 
 pub returns-in-Err : goal.returns-in-Err
@@ -19,5 +19,5 @@ returns-in-Err g c =
     let kept = g.H.Held.kept in
     subst (λ (r : Result Unit HeldLog). Opens (IsHold g.N.Naming.home) c.args.session c.args.stream c.args.log r) c.in-Err.is
     (opens_in g.N.Naming.home c.args.session c.args.stream _ _ c.args.log c.open-opened.result (kept c.args.slot.now) (kept c.open-opened.new.self)
-    (to_z-of_z w32 c.args.session c.ranges.session) (to_z-of_z w32 c.args.stream c.ranges.stream) c.holds.ensures.own c.holds-2.ensures.own
+    (to_z-of_z w32 c.args.session c.ranges.session) (to_z-of_z w32 c.args.stream c.ranges.stream) (record { own = c.holds.ensures.own; whole = c.holds.ensures.whole }) (record { own = c.holds-2.ensures.own; whole = c.holds-2.ensures.whole })
     c.open-opened.ensures.free c.open-opened.ensures.opened c.open-opened.ensures.back)

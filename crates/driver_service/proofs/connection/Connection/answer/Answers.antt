@@ -2,8 +2,9 @@ use Rattle.std.proofs.Common.{ℕ, refl, subst, sym}
 use Rattle.service_records.specs.declared.request.Request.{Request}
 use Rattle.driver_service.specs.Answering.{IsAnswer, KeepsRefusals}
 use Rattle.driver_service.specs.Calls.{CallsOnly}
-use Rattle.driver_service.specs.Requests.{IsAllowed, IsCommand, IsImage, IsLook, IsMail, IsNamed, IsOffer, IsPoll, IsPollOf, IsPublication, IsValue, fragments, polled_pairs}
+use Rattle.driver_service.specs.Requests.{IsAllowed, IsCommand, IsImage, IsLook, IsMail, IsNamed, IsOffer, IsPollOf, IsPollWithin, IsPublication, IsValue, fragments, polled_pairs}
 use Rattle.driver_service.proofs.CallLemmas.{after_stay, of_answers, of_mail, of_offers, stay_alone}
+use Rattle.driver_service.proofs.GatherLemmas.{of_polls}
 use Rattle.driver_service.proofs.RoundLemmas.{of_rounds}
 use Rattle.driver_service.proofs.connection.Connection.answer.Goals as goal
 
@@ -25,11 +26,11 @@ returns-in-Command g c =
 
 pub returns-in-Poll : goal.returns-in-Poll
 returns-in-Poll g c =
-    let calls = of_answers g.S.Seat.does (IsPoll c.in-Poll.subscription c.in-Poll.source (fragments c.in-Poll.limit)) c.stay.new.self c.answer_poll.new.self.seat c.args.out.now.items c.answer_poll.new.out.items c.answer_poll.result c.answer_poll.ensures.answers in
+    let calls = of_polls g.S.Seat.does c.in-Poll.subscription c.in-Poll.source c.in-Poll.limit c.stay.new.self c.answer_poll.new.self.seat c.args.out.now.items c.answer_poll.new.out.items c.answer_poll.result c.answer_poll.ensures.answers in
     record {
       calls =
           subst (λ (r : Request). CallsOnly g.S.Seat.does (IsAllowed r c.args.tail.now) c.args.self.now.seat c.answer_poll.new.self.seat) (sym c.in-Poll.is)
-          (after_stay g.S.Seat.does (IsPoll c.in-Poll.subscription c.in-Poll.source (fragments c.in-Poll.limit)) c.args.self.now.seat c.stay.new.self c.answer_poll.new.self.seat c.stay.ensures calls);
+          (after_stay g.S.Seat.does (IsPollWithin c.in-Poll.subscription c.in-Poll.source (fragments c.in-Poll.limit)) c.args.self.now.seat c.stay.new.self c.answer_poll.new.self.seat c.stay.ensures calls);
       answered = record {
         heard = c.stay.new.self;
         stays = c.stay.ensures;
@@ -149,10 +150,9 @@ pub returns-in-PollAll-clause-calls : goal.returns-in-PollAll-clause-calls
 returns-in-PollAll-clause-calls g c =
     let pairs = polled_pairs c.args.tail.now in
     let limit = fragments c.in-PollAll.limit in
-    let calls = of_rounds g.S.Seat.does c.few-limit.result pairs c.stay.new.self c.answer_rounds.new.seat c.args.out.now.items c.answer_rounds.new.out.items c.answer_rounds.result c.answer_rounds.ensures in
-    let named = subst (λ (n : ℕ). CallsOnly g.S.Seat.does (IsPollOf n pairs) c.stay.new.self c.answer_rounds.new.seat) c.few-limit.ensures calls in
+    let calls = of_rounds g.S.Seat.does c.in-PollAll.limit pairs c.stay.new.self c.answer_rounds.new.seat c.args.out.now.items c.answer_rounds.new.out.items c.answer_rounds.result c.answer_rounds.ensures in
     subst (λ (r : Request). CallsOnly g.S.Seat.does (IsAllowed r c.args.tail.now) c.args.self.now.seat c.answer_rounds.new.seat) (sym c.in-PollAll.is)
-    (after_stay g.S.Seat.does (IsPollOf limit pairs) c.args.self.now.seat c.stay.new.self c.answer_rounds.new.seat c.stay.ensures named)
+    (after_stay g.S.Seat.does (IsPollOf limit pairs) c.args.self.now.seat c.stay.new.self c.answer_rounds.new.seat c.stay.ensures calls)
 
 pub returns-in-PublicationPositions : goal.returns-in-PublicationPositions
 returns-in-PublicationPositions g c =

@@ -1,3 +1,4 @@
+use Rattle.std.proofs.Common.{refl}
 use Rattle.served_clients.proofs.served.ServedSeat.list.Goals as goal
 
 pub returns : goal.returns
@@ -6,12 +7,15 @@ returns g c =
     record {
       bytes = w.bytes;
       appended = w.appended;
-      holds = record {
-        gave = c.list-gave.result;
-        looks = c.list-gave.ensures.looks;
-        listed = c.list-gave.ensures.listed;
-        fault = c.list-gave.ensures.fault;
-        audit = c.list-gave.ensures.audit;
-        told_is = w.holds;
-      };
+      holds = (
+        record {
+          gave = c.list-gave.result;
+          looks = c.list-gave.ensures.looks;
+          listed = c.list-gave.ensures.listed;
+          fault = c.list-gave.ensures.fault;
+          audit = c.list-gave.ensures.audit;
+          told_is = w.holds;
+        },
+        refl,
+      );
     }

@@ -1,13 +1,17 @@
+use Rattle.std.proofs.Common.{refl}
 use Rattle.served_clients.proofs.served.ServedSeat.offer.Goals as goal
 
 pub returns : goal.returns
-returns g c = record {
-  gave = c.offer-gave.result;
-  known = c.offer-gave.ensures.known;
-  moment = c.offer-gave.ensures.moment;
-  same = c.offer-gave.ensures.same;
-  counted = c.offer-gave.ensures.counted;
-  step = c.offer-gave.ensures.step;
-  audit = c.offer-gave.ensures.audit;
-  told_is = c.tell_offer.ensures;
-}
+returns g c = (
+  record {
+    gave = c.offer-gave.result;
+    known = c.offer-gave.ensures.known;
+    moment = c.offer-gave.ensures.moment;
+    same = c.offer-gave.ensures.same;
+    counted = c.offer-gave.ensures.counted;
+    step = c.offer-gave.ensures.step;
+    audit = c.offer-gave.ensures.audit;
+    told_is = c.tell_offer.ensures;
+  },
+  refl,
+)

@@ -1,3 +1,4 @@
+use Rattle.std.proofs.Common.{refl}
 use Rattle.served_clients.proofs.TellLemmas.{no_fragments}
 use Rattle.served_clients.proofs.served.ServedSeat.poll.Goals as goal
 
@@ -8,7 +9,7 @@ returns g c =
       bytes = w.bytes;
       appended = w.appended;
       holds = (
-        record { gave = c.poll-gave.result; looks = c.poll-gave.ensures.looks; step = c.poll-gave.ensures.step; audit = c.poll-gave.ensures.audit; told_is = w.holds },
+        (record { gave = c.poll-gave.result; looks = c.poll-gave.ensures.looks; step = c.poll-gave.ensures.step; audit = c.poll-gave.ensures.audit; told_is = w.holds }, refl),
         no_fragments c.poll-gave.result w.bytes c.tell_poll-told.result w.holds,
       );
     }

@@ -1,0 +1,4 @@
+pub mod Denials
+pub mod Looks
+pub mod Notes
+pub mod RuleNames

@@ -1,0 +1,5 @@
+pub mod Guards
+pub mod Kinds
+pub mod Origins
+pub mod Reads
+pub mod Spending

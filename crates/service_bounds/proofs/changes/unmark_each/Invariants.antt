@@ -1,7 +1,0 @@
-use Rattle.std.proofs.Common.{◌≡◌, ◌++◌, take, drop, map}
-use Rattle.service_bounds.specs.Changes.{staying}
-use Rattle.service_bounds.proofs.changes.unmark_each.Given as goal
-
--- the rows before this one are changed, the others are as they were
-abbrev pub invariant-loop-row : goal.invariant-loop-row
-invariant-loop-row l = l.rows ≡ map (staying l.client l.correlation) (take l.row-index l.initial.rows) ++ drop l.row-index l.initial.rows
