@@ -1,1 +1,4 @@
+pub mod Files
 pub mod Hosting
+pub mod Keeping
+pub mod Strangers

@@ -23,8 +23,12 @@ pub enum Fault {
     /// It was said on standard error already.
     #[error("")]
     Said,
-    #[error("cannot read file: {0}")]
+    #[error("cannot read file")]
     CannotRead(io::ErrorKind),
+    #[error("it is no regular file")]
+    NotRegular,
+    #[error("somebody writes it: try again")]
+    Written,
     #[error("{0}")]
     Run(RunFault),
     #[error("{0}")]

@@ -1,113 +1,58 @@
 //! The driver of this process, as its doors use it.
 
-ghost use Rattle.aeron_policyd.specs.Hosting.{Gives, number_in};
-ghost use Rattle.std.specs.Prelude.{IfOk, Ok};
+ghost use Rattle.aeron_policyd.specs.Hosting.{Gives, TakesBack, attach_reason, number_in};
+ghost use Rattle.std.specs.Prelude.{◌≡◌, IfOk, IfSome, Ok};
 
 use crate::connecting::{Entered, Leaving, OwnServed, Tray, run_connection};
-use crate::files::{Unread, file_bytes};
+use crate::files::SharedFiles;
 use crate::keeping::Kept;
-use crate::named::Named;
+use crate::looks::Looks;
+use crate::rereading::{Found, Shelf, Sources, begin_reading};
 use crate::station::OwnDriver;
 use driver_service::Reason;
 use media_driver::{AttachFault, DriverNaming, ReloadFault};
-use policy_answers::{AskFault, compare, refusal};
-use policy_query::Document;
 use policy_text::Names;
-use program_parts::{Disk, Machine};
+use program_parts::Machine;
 use served_clients::Served;
-use service_doors::{Begun, Entering, Reloaded, Returned};
+use service_doors::{Begun, Entering, Reloaded, Returned, Share};
 use service_streams::Greeting;
 use std::alloc::{AllocError, Global};
+use std::os::unix::net::UnixStream;
 use std::sync::Arc;
-use std::time::Clock;
 use std::{mem, str, thread};
 
-/// The policy's file, and what was read from it.
-#[derive(Drop)]
-pub(crate) struct Sources {
-    path: String,
-    /// The bytes that were read last.
-    text: Vec<u8>,
-    /// Those that are in force, and their number.
-    in_force: Vec<u8>,
-    epoch: u64,
-    names: Named,
-}
+/// How many operators may wait that the policy's file is read again.
+const OPERATORS: usize = 16;
 
-/// How long a client may be silent, and read nothing.
+/// How long a client may be silent, and have something to read and not go on.
 #[derive(Clone, Copy)]
 pub(crate) struct Patience {
     /// How long the driver lets a client be silent, in nanoseconds.
     pub(crate) liveness: u64,
-    /// How long a client may read nothing while there is something to read, in nanoseconds, if there is a bound.
+    /// How long a client may have something to read and not go on, in nanoseconds, if there is a bound.
     pub(crate) unread: Option<u64>,
 }
 
 /// A driver that serves.
-pub(crate) struct Daemon<N: DriverNaming, R: Machine, F: Disk> {
+pub(crate) struct Daemon<N: DriverNaming, R: Machine, F: SharedFiles> {
     rt: R,
     files: F,
     driver: OwnDriver<N, R>,
     tray: Arc<Tray<N, R>>,
     patience: Patience,
-    sources: Sources,
-}
-
-/// What would be decided otherwise under a new policy now, in lines; nothing where it is no policy.
-fn changes<R: Machine>(
-    rt: &R,
-    sources: &Sources,
-    new: &Document<'_>,
-) -> Result<String, AllocError> {
-    let moment = match rt.since_1970() {
-        Ok(since) => since.as_nanos().min(i64::MAX as u128) as u64,
-        Err(_) => 0,
-    };
-    let old = Document::read(rt.alloc(), sources.in_force.as_slice())?;
-    match compare(rt.alloc(), &old, new, &sources.names.directory, moment) {
-        Ok(answer) => Ok(String::from_str(rt.alloc(), answer.text.as_str())?),
-        Err(AskFault::NoMemory) => Err(AllocError),
-        Err(_) => Ok(String::new(rt.alloc())),
-    }
-}
-
-impl Sources {
-    /// The policy that was read from that file is in force, as the first.
-    pub(crate) fn new(
-        alloc: Global,
-        path: &str,
-        text: Vec<u8>,
-        names: Named,
-    ) -> Result<Sources, AllocError> {
-        let path = String::from_str(alloc, path)?;
-        let in_force = Vec::from_slice(alloc, text.as_slice())?;
-        Ok(Sources {
-            path,
-            text,
-            in_force,
-            epoch: 1,
-            names,
-        })
-    }
-
-    /// What is said of a new policy once it is in force.
-    fn said<R: Machine>(
-        &self,
-        rt: &R,
-        new: &Document<'_>,
-        is_asked: bool,
-    ) -> Result<String, AllocError> {
-        let epoch = self.epoch.saturating_add(1);
-        if !is_asked {
-            return Ok(format!(in rt.alloc(); "policy {epoch} in force")?);
-        }
-        let changes = changes(rt, self, new)?;
-        Ok(format!(in rt.alloc(); "policy {epoch} in force\n{changes}")?)
-    }
+    policy: Arc<Shelf>,
+    /// What was denied is said.
+    looks: Looks,
+    /// The operators who asked that the policy's file be read again, before it was begun.
+    asking: Vec<UnixStream>,
+    /// Those for whom it is read now.
+    waiting: Vec<UnixStream>,
 }
 
 /// Why no client attached.
-fn reason_of(fault: AttachFault) -> Reason {
+fn reason_of(fault: AttachFault) -> Reason
+    ensures { result ≡ attach_reason fault }
+{
     match fault {
         AttachFault::Full => Reason::Full,
         AttachFault::Stopped => Reason::Stopped,
@@ -131,14 +76,15 @@ fn put_in_force<N: DriverNaming + Send + Sync + 'static, R: Machine>(
     }
 }
 
-impl<N: DriverNaming + Send + Sync + 'static, R: Machine, F: Disk> Daemon<N, R, F> {
+impl<N: DriverNaming + Send + Sync + 'static, R: Machine, F: SharedFiles> Daemon<N, R, F> {
     pub(crate) fn new(
         rt: R,
         files: F,
         driver: OwnDriver<N, R>,
         tray: Arc<Tray<N, R>>,
         patience: Patience,
-        sources: Sources,
+        policy: Arc<Shelf>,
+        looks: Looks,
     ) -> Daemon<N, R, F> {
         Daemon {
             rt,
@@ -146,7 +92,10 @@ impl<N: DriverNaming + Send + Sync + 'static, R: Machine, F: Disk> Daemon<N, R, 
             driver,
             tray,
             patience,
-            sources,
+            policy,
+            looks,
+            asking: Vec::new(rt.alloc()),
+            waiting: Vec::new(rt.alloc()),
         }
     }
 
@@ -158,14 +107,19 @@ impl<N: DriverNaming + Send + Sync + 'static, R: Machine, F: Disk> Daemon<N, R, 
             driver,
             tray: _,
             patience: _,
-            sources: _,
+            policy: _,
+            looks: _,
+            asking: _,
+            waiting: _,
         } = self;
         driver
     }
 
     /// A client attaches for that principal.
     fn attach(&mut self, principal: u32, kept: Kept<R>) -> Result<(OwnServed<N, R>, u64), Reason>
-        ensures { IfOk result (λ x. Gives self.old.driver principal (Ok x.1) self.new.driver) }
+        ensures gives { IfOk result (λ x. Gives self.old.driver principal (Ok x.1) self.new.driver) }
+        ensures own { IfOk result (λ x. x.0.client.number ≡ x.1) }
+        ensures shares { IfOk result (λ x. x.0.habits.keeper ≡ kept) }
     {
         let mut client = match self.driver.client(principal) {
             Ok(client) => client,
@@ -180,22 +134,42 @@ impl<N: DriverNaming + Send + Sync + 'static, R: Machine, F: Disk> Daemon<N, R, 
         Ok((served, number))
     }
 
+    /// What a client shares with others, and where is said what is denied to it.
+    fn kept(&self, share: Share<R>) -> Result<Kept<R>, Reason>
+        ensures { IfOk result (λ kept. kept.share ≡ share) }
+    {
+        match self.looks.denials() {
+            Ok(denials) => Ok(Kept {
+                rt: self.rt,
+                share,
+                denials,
+            }),
+            Err(_) => Err(Reason::NoMemory),
+        }
+    }
+
     /// Who came in gets a client.
     fn entered(&mut self, entering: Entering<R>) -> Result<Entered<N, R>, Reason>
-        ensures { IfOk result (λ entered. Gives self.old.driver entering.principal (Ok entered.greeting.client) self.new.driver) }
+        ensures gives { IfOk result (λ entered. Gives self.old.driver entering.principal (Ok entered.greeting.client) self.new.driver) }
+        ensures shares { IfOk result (λ entered. entered.served.habits.keeper.share ≡ entering.share) }
     {
         let Ok(tray) = Arc::try_clone(&self.tray) else {
             return Err(Reason::NoMemory);
         };
+        let rt = self.rt;
         let Entering {
             stream,
             principal,
             share,
             bells,
         } = entering;
-        let (served, client) = self.attach(principal, Kept { share })?;
+        let Some(memory) = share.memory() else {
+            return Err(Reason::NoMemory);
+        };
+        let kept = self.kept(share)?;
+        let (served, client) = self.attach(principal, kept)?;
         Ok(Entered {
-            rt: self.rt,
+            rt,
             stream,
             served,
             greeting: Greeting {
@@ -204,53 +178,9 @@ impl<N: DriverNaming + Send + Sync + 'static, R: Machine, F: Disk> Daemon<N, R, 
                 liveness: self.patience.liveness,
             },
             bells,
+            memory,
             tray,
         })
-    }
-
-    /// Why what was read from the policy's file is no policy, where it is none.
-    fn refusal(&self, document: &Document<'_>) -> Result<Option<String>, AllocError> {
-        let Sources { path, names, .. } = &self.sources;
-        let origin = names.origin(path.as_str());
-        match refusal(self.rt.alloc(), document, &names.directory, origin)? {
-            Some(why) => Ok(Some(String::from_str(self.rt.alloc(), why.as_str())?)),
-            None => Ok(None),
-        }
-    }
-
-    /// New bytes are put in force, where they are a policy.
-    fn taken(&mut self, bytes: &[u8], is_asked: bool) -> Result<Reloaded, AllocError> {
-        let document = Document::read(self.rt.alloc(), bytes)?;
-        if let Some(why) = self.refusal(&document)? {
-            return Ok(Reloaded::Refused(why));
-        }
-        let said = self.sources.said(&self.rt, &document, is_asked)?;
-        let kept = Vec::from_slice(self.rt.alloc(), bytes)?;
-        let names = self.sources.names.directory.names();
-        if let Some(why) = put_in_force(self.rt.alloc(), &mut self.driver, names, bytes)? {
-            return Ok(Reloaded::Refused(why));
-        }
-        let _ = mem::replace(&mut self.sources.in_force, kept);
-        self.sources.epoch = self.sources.epoch.saturating_add(1);
-        Ok(Reloaded::InForce(said))
-    }
-
-    /// The policy's file is read again, and put in force where it has changed or where an operator asks for that.
-    fn reloaded(&mut self, is_asked: bool) -> Result<Reloaded, AllocError> {
-        let path = self.sources.path.as_str();
-        let bytes = match file_bytes(&self.files, path) {
-            Ok(bytes) => bytes,
-            Err(fault) => {
-                let unread = Unread { path, fault };
-                return Ok(Reloaded::Refused(format!(in self.rt.alloc(); "{unread}")?));
-            }
-        };
-        if !is_asked && bytes.as_slice() == self.sources.text.as_slice() {
-            return Ok(Reloaded::Same);
-        }
-        let came = self.taken(bytes.as_slice(), is_asked)?;
-        let _ = mem::replace(&mut self.sources.text, bytes);
-        Ok(came)
     }
 
     /// Who came in gets a client of their principal, and a thread.
@@ -266,7 +196,9 @@ impl<N: DriverNaming + Send + Sync + 'static, R: Machine, F: Disk> Daemon<N, R, 
     }
 
     /// The next client whose connection ended goes back to the driver, if there is one.
-    pub(crate) fn take_back(&mut self) -> Option<Returned> {
+    pub(crate) fn take_back(&mut self) -> Option<Returned>
+        ensures { IfSome result (λ returned. TakesBack returned self.old.driver self.new.driver) }
+    {
         let Leaving {
             number,
             client,
@@ -276,8 +208,76 @@ impl<N: DriverNaming + Send + Sync + 'static, R: Machine, F: Disk> Daemon<N, R, 
         Some(Returned { number, ended })
     }
 
-    /// The policy's file is read again, and put in force where it has changed or where an operator asks for that.
-    pub(crate) fn reload(&mut self, is_asked: bool) -> Reloaded {
-        self.reloaded(is_asked).unwrap_or(Reloaded::NoMemory)
+    /// The policy's file is to be read again: for an operator, where one asks. Why it is not, if it is not.
+    pub(crate) fn ask(&mut self, operator: Option<UnixStream>) -> Option<(UnixStream, Reloaded)> {
+        if let Some(operator) = operator {
+            if self.asking.len() >= OPERATORS {
+                return Some((operator, Reloaded::NoMemory));
+            }
+            if let Err(refused) = self.asking.push(operator) {
+                return Some((refused.value, Reloaded::NoMemory));
+            }
+        }
+        self.read_again();
+        None
+    }
+
+    /// The policy's file is read again for those who ask, unless it is read already.
+    fn read_again(&mut self) {
+        if self.policy.is_busy(&self.rt) {
+            return;
+        }
+        let none = Vec::new(self.rt.alloc());
+        self.waiting = mem::replace(&mut self.asking, none);
+        let is_asked = !self.waiting.is_empty();
+        let (rt, files) = (self.rt, self.files);
+        if !begin_reading(rt, files, &self.policy, &self.tray, is_asked) {
+            self.policy.fail(&self.rt);
+        }
+    }
+
+    /// What was found in the policy's file is put in force.
+    fn put_in_force(&mut self, sources: &mut Sources, found: Found) -> Reloaded {
+        let policy = match found {
+            Found::Policy(policy) => policy,
+            Found::Refused(why) => return Reloaded::Refused(why),
+            Found::Nothing => return Reloaded::Same,
+            Found::NoMemory => return Reloaded::NoMemory,
+        };
+        let names = policy.names.directory.names();
+        let bytes = policy.bytes.as_slice();
+        self.looks
+            .announce(&self.rt, &policy.names.directory, bytes);
+        match put_in_force(self.rt.alloc(), &mut self.driver, names, bytes) {
+            Ok(None) => {
+                self.looks.entered();
+                Reloaded::InForce(sources.entered(policy))
+            }
+            Ok(Some(why)) => Reloaded::Refused(why),
+            Err(_) => Reloaded::NoMemory,
+        }
+    }
+
+    /// What the driver denied since it was looked at last is said, where it is time to look.
+    pub(crate) fn look_in_time(&mut self) {
+        self.looks.look_in_time(&self.rt, &self.driver);
+    }
+
+    /// The same, for the last time.
+    pub(crate) fn look_last(&mut self) {
+        self.looks.look(&self.rt, &self.driver);
+    }
+
+    /// What was found in the policy's file since, if it was read again, is put in force: what came of it, and who asked.
+    pub(crate) fn reread(&mut self) -> Option<(Vec<UnixStream>, Reloaded)> {
+        let (mut sources, found) = self.policy.found(&self.rt)?;
+        let came = self.put_in_force(&mut sources, found);
+        self.policy.rest(&self.rt, sources);
+        let none = Vec::new(self.rt.alloc());
+        let asked = mem::replace(&mut self.waiting, none);
+        if !self.asking.is_empty() {
+            self.read_again();
+        }
+        Some((asked, came))
     }
 }

@@ -7,12 +7,16 @@
 
 mod asking;
 mod audited;
+mod book;
 mod causes;
+mod clashing;
 mod connecting;
+mod denials;
 mod fault;
 mod files;
 mod hosting;
 mod keeping;
+mod looks;
 mod messages;
 mod moments;
 mod named;
@@ -22,15 +26,19 @@ mod policies;
 mod publishing;
 mod replies;
 mod reported;
+mod rereading;
 mod running;
+mod saying;
 mod scripts;
 mod serving;
 mod starting;
 mod station;
+mod strangers;
 mod subscribing;
 mod waking;
 
 use crate::fault::Fault;
+use crate::files::SharedFiles;
 use crate::messages::answer_messages;
 use crate::policies::answer_asking;
 use crate::scripts::run_script;
@@ -39,13 +47,13 @@ use clap::ArgMatches;
 use clap::error::ErrorKind;
 use command_line::{Task, command, task_in};
 use program_parts::{Disk, Machine};
-use std::io::StdinLock;
+use std::io::{IsTerminal, StdinLock};
 use std::net::{Net, TcpListener, TcpStream};
 use std::process::ExitCode;
 use std::rt::{Env, Files};
 use std::sync::Wait;
 use std::thread::Threads;
-use std::time::Clock;
+use std::time::{Clock, CpuClock};
 use std::{env, io};
 
 /// The status of a command line that is at fault.
@@ -83,35 +91,46 @@ fn print_text<R: Print>(rt: &R, text: &str) -> Result<ExitCode, Fault> {
     }
 }
 
-/// Does a task.
-fn perform<R: Machine, F: Disk>(rt: &R, files: &F, task: Task<'_>) -> Result<ExitCode, Fault> {
+/// Does a task. Standard error may be a terminal.
+fn perform<R: Machine, F: Disk + SharedFiles>(
+    rt: &R,
+    files: &F,
+    task: Task<'_>,
+    is_terminal: bool,
+) -> Result<ExitCode, Fault> {
     match task {
         Task::Messages(asked) => answer_messages(rt, asked),
         Task::Script { file } => run_script(rt, files, file),
-        Task::Ask(asking) => answer_asking(rt, files, &asking),
+        Task::Ask(asking) => answer_asking(rt, files, &asking, is_terminal),
         Task::Start(asked) => {
-            start(rt, files, asked)?;
+            start(rt, files, asked, is_terminal)?;
             Ok(ExitCode::SUCCESS)
         }
     }
 }
 
 /// Does what the words of the command line were found to say.
-fn obey<R: Machine, F: Disk>(
+fn obey<R: Machine, F: Disk + SharedFiles>(
     rt: &R,
     files: &F,
     matches: &ArgMatches<'_>,
+    is_terminal: bool,
 ) -> Result<ExitCode, Fault> {
     match task_in(matches) {
-        Some(task) => perform(rt, files, task),
+        Some(task) => perform(rt, files, task, is_terminal),
         None => Ok(ExitCode::from(USAGE)),
     }
 }
 
 /// Does what the words of the command line say.
-fn answer<R: Machine, F: Disk>(rt: &R, files: &F, words: &[String]) -> Result<ExitCode, Fault> {
+fn answer<R: Machine, F: Disk + SharedFiles>(
+    rt: &R,
+    files: &F,
+    words: &[String],
+    is_terminal: bool,
+) -> Result<ExitCode, Fault> {
     match command(rt.alloc())?.try_get_matches_from(words) {
-        Ok(matches) => obey(rt, files, &matches),
+        Ok(matches) => obey(rt, files, &matches, is_terminal),
         Err(error) => explain(rt, &error),
     }
 }
@@ -123,6 +142,7 @@ fn serve<
         + Eprint
         + AllocGlobal
         + Clock
+        + CpuClock
         + Net
         + Threads
         + Wait
@@ -131,8 +151,8 @@ fn serve<
         + Send
         + Sync
         + 'static,
-    F: Disk + Env,
->(rt: &R, files: &F) -> Result<ExitCode, Fault>
+    F: Disk + SharedFiles + Env,
+>(rt: &R, files: &F, is_terminal: bool) -> Result<ExitCode, Fault>
 where
     R: Input<Reader = StdinLock<'static>>,
     R: Net<Listener = TcpListener, Stream = TcpStream>,
@@ -141,11 +161,11 @@ where
         let _ = rt.eprintln("error: invalid UTF-8 was detected in one or more arguments");
         return Ok(ExitCode::from(USAGE));
     };
-    answer(rt, files, words.as_slice())
+    answer(rt, files, words.as_slice(), is_terminal)
 }
 
 fn main(rt: HostRuntime) -> ExitCode {
-    match serve(&rt, &rt) {
+    match serve(&rt, &rt, rt.stderr().is_terminal()) {
         Ok(status) => status,
         Err(Fault::Said) => ExitCode::FAILURE,
         Err(fault) => {

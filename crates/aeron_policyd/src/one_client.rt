@@ -10,9 +10,10 @@ use crate::publishing::Publishing;
 use crate::reported::{Notes, Reported};
 use crate::running::try_out;
 use crate::station::{Chores, OwnDriver, Station, Ties};
+use crate::strangers::{Bound, Gate, GuardedUdp};
 use crate::subscribing::Subscribing;
 use crate::waking::{AtHome, Waking};
-use driver_core::{Peer, Settings};
+use driver_core::Settings;
 use media_driver::{AttachFault, Backoff, Driver, DriverNaming, MachineClock, Parts, StartFault};
 use media_wire::Udp;
 use policy_core::Policy;
@@ -26,11 +27,19 @@ use wire_causes::Side;
 /// publication.
 const SOCKETS: usize = 769;
 
+/// The client sends itself a message.
+#[derive(Clone, Copy, Debug)]
+pub(crate) struct Trial {
+    /// After how many tries each of its waits ends.
+    pub(crate) tries: u64,
+    /// Whether what was decided is printed then.
+    pub(crate) audit: bool,
+}
+
 /// What is done with the driver and its client.
 #[derive(Drop)]
 pub(crate) enum Task {
-    /// The client sends itself a message, and each of its waits ends after so many tries.
-    TryOut { tries: u64 },
+    TryOut(Trial),
     Publish(Publishing),
     Subscribe(Subscribing),
 }
@@ -59,8 +68,9 @@ fn perform<N: DriverNaming + Send + Sync + 'static, R: Machine, F: Disk>(
     task: &Task,
 ) -> Result<(), Fault> {
     match task {
-        Task::TryOut { tries } => {
-            if try_out(&station.rt, &mut station.client, *tries)? {
+        Task::TryOut(Trial { tries, audit }) => {
+            try_out(&station.rt, &mut station.client, *tries)?;
+            if *audit {
                 show_audits(&station.rt, &station.driver, &station.client)?;
             }
             Ok(())
@@ -114,21 +124,25 @@ fn shared<R: Machine, T: Drop>(rt: &R, value: T) -> Result<Arc<T>, Fault> {
 /// What a driver begins with, beside its parts.
 #[derive(Drop)]
 struct Beginning<R: Machine> {
-    wire: Reported<Udp<R>>,
+    wire: Reported<GuardedUdp<R>>,
     clock: MachineClock<R>,
     gate: Waking<R, AtHome>,
 }
 
 impl<R: Machine> Beginning<R> {
     /// Sockets of the system, its time, and a gate at which the client is woken.
-    fn new(rt: R, parts: &Parts, ties: &Ties) -> Result<Beginning<R>, Fault> {
+    fn new(rt: R, parts: &Parts, gate: Gate, ties: &Ties) -> Result<Beginning<R>, Fault> {
+        let wire = gate.around(rt, Udp::new(rt.alloc(), rt, SOCKETS)?);
         let clock = match MachineClock::start(rt) {
             Ok(clock) => clock,
             Err(fault) => return Err(Fault::Start(StartFault::Clock(fault))),
         };
-        let Ties { notes, bell } = ties.again()?;
+        let Ties {
+            notes,
+            bell,
+            drops: _,
+        } = ties.again()?;
         let inner = Backoff::new(rt, parts.bells()?);
-        let wire = Udp::new(rt.alloc(), rt, SOCKETS)?;
         Ok(Beginning {
             wire: Reported::new(wire, notes),
             clock,
@@ -138,11 +152,15 @@ impl<R: Machine> Beginning<R> {
 }
 
 /// What a driver begins with, and what its client has in common with it.
-fn prepared<R: Machine>(rt: R, parts: &Parts) -> Result<(Beginning<R>, Ties), Fault> {
+fn prepared<R: Machine>(rt: R, parts: &Parts, gate: Gate) -> Result<(Beginning<R>, Ties), Fault> {
     let notes = shared(&rt, Notes::new())?;
     let bell = shared(&rt, Parker::new())?;
-    let ties = Ties { notes, bell };
-    let beginning = Beginning::new(rt, parts, &ties)?;
+    let ties = Ties {
+        notes,
+        bell,
+        drops: gate.drops()?,
+    };
+    let beginning = Beginning::new(rt, parts, gate, &ties)?;
     Ok((beginning, ties))
 }
 
@@ -151,11 +169,12 @@ fn started<N: DriverNaming + Send + Sync + 'static, R: Machine, F: Disk>(
     rt: R,
     files: F,
     parts: Parts,
+    gate: Gate,
     work: Work,
 ) -> Result<(), Fault>
     requires { AreNamed N.home N.ledger N.parts N.client_ledger N.client_parts N.book parts }
 {
-    let (beginning, ties) = match prepared(rt, &parts) {
+    let (beginning, ties) = match prepared(rt, &parts, gate) {
         Ok(prepared) => prepared,
         Err(fault) => {
             parts.end(&rt);
@@ -183,13 +202,14 @@ pub(crate) fn with_client<R: Machine, F: Disk>(
     files: F,
     settings: Settings,
     policy: Policy,
-    peers: &[Peer],
+    bound: Bound,
     work: Work,
 ) -> Result<(), Fault>
     requires { AreSettings settings }
 {
-    match Parts::make(&rt, rt.alloc(), settings, policy, peers) {
-        Ok(parts) => started::<Brand, R, F>(rt, files, parts, work),
+    let Bound { peers, gate } = bound;
+    match Parts::make(&rt, rt.alloc(), settings, policy, peers.as_slice()) {
+        Ok(parts) => started::<Brand, R, F>(rt, files, parts, gate, work),
         Err(fault) => Err(Fault::Make(fault)),
     }
 }

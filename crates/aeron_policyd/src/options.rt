@@ -4,9 +4,9 @@ ghost use Rattle.driver_core.specs.Soundness.{AreSettings};
 ghost use Rattle.std.specs.Prelude.{IfOk};
 
 use crate::fault::Fault;
-use crate::files::give_up;
+use crate::saying::give_up;
 use byte_strings::Text;
-use channel_uri::{Address, Channel, Media, address_of};
+use channel_uri::{Address, Channel, Media, UriError, address_of};
 use command_line::Join;
 use driver_core::{Peer, Settings};
 use media_driver::Elicitation;
@@ -58,15 +58,24 @@ fn why_not(key: &str, given: &[&str]) -> &'static str {
     wanted
 }
 
-/// Takes a choice; whether it is one.
-fn chose(alloc: Global, choices: &mut Choices, key: &str, value: &str) -> Result<bool, AllocError> {
+/// Takes a choice, after those that these words were; whether it is one.
+fn chose(
+    alloc: Global,
+    choices: &mut Choices,
+    given: &[&str],
+    key: &str,
+    value: &str,
+) -> Result<bool, AllocError> {
     let Some((kind, _)) = kind_of(key) else {
         return Ok(false);
     };
-    match plain(alloc, kind, value)? {
-        Some(value) => choices.choose(Text::new(alloc, key)?, value.as_str()),
-        None => Ok(false),
+    let Some(value) = plain(alloc, kind, value)? else {
+        return Ok(false);
+    };
+    if key == "images-per-source" {
+        return Ok(!chooses(given, key) && choices.bound_images(value.as_str()));
     }
+    choices.choose(Text::new(alloc, key)?, value.as_str())
 }
 
 /// Whether one of the words chooses this key.
@@ -86,8 +95,8 @@ pub(crate) fn settings_of<R: Machine>(rt: &R, words: &[&str]) -> Result<Settings
         let Some((key, value)) = word.split_once('=') else {
             return Err(refuse(rt, "--setting", word, "wanted KEY=VALUE"));
         };
-        if !chose(rt.alloc(), &mut choices, key, value)? {
-            let given = words.get(..place).unwrap_or(&[]);
+        let given = words.get(..place).unwrap_or(&[]);
+        if !chose(rt.alloc(), &mut choices, given, key, value)? {
             return Err(refuse(rt, "--setting", word, why_not(key, given)));
         }
     }
@@ -95,7 +104,7 @@ pub(crate) fn settings_of<R: Machine>(rt: &R, words: &[&str]) -> Result<Settings
 }
 
 /// The address that a text is, where `localhost:` at its head is 127.0.0.1.
-fn address_from(alloc: Global, text: &str) -> Result<Option<Address>, AllocError> {
+pub(crate) fn address_from(alloc: Global, text: &str) -> Result<Option<Address>, AllocError> {
     Ok(match plain(alloc, Kind::Address, text)? {
         Some(address) => address_of(address.as_str()),
         None => None,
@@ -163,33 +172,49 @@ pub(crate) fn peers_of<R: Machine>(
     Ok(peers)
 }
 
-/// A channel that reaches other processes; any other one is a fault. A text that is none is left to the driver, which says so.
-fn reaching(channel: &str) -> Result<Option<Channel>, Fault> {
-    let Ok(channel) = Channel::parse(channel) else {
-        return Ok(None);
-    };
+/// A text that is no channel.
+#[derive(Drop)]
+struct NoChannel {
+    shown: Text,
+    cause: UriError,
+}
+
+impl fmt::Display for NoChannel {
+    fn fmt<W: fmt::Write>(&self, f: &mut fmt::Formatter<W>) -> fmt::Result {
+        let NoChannel { shown, cause } = self;
+        write!(f, "{shown}: invalid channel: {cause}")
+    }
+}
+
+/// The channel that a word of the command line is. Why it is none is said on standard error.
+pub(crate) fn channel_of<R: Machine>(rt: &R, word: &str) -> Result<Channel, Fault> {
+    match Channel::parse(word) {
+        Ok(channel) => Ok(channel),
+        Err(cause) => {
+            let shown = policy_tools::plain(rt.alloc(), word)?;
+            Err(give_up(rt, &NoChannel { shown, cause }))
+        }
+    }
+}
+
+/// Such a channel as reaches other processes; any other one is a fault.
+pub(crate) fn reaching<R: Machine>(rt: &R, word: &str) -> Result<Channel, Fault> {
+    let channel = channel_of(rt, word)?;
     if channel.media() == Media::Ipc {
         return Err(Fault::Ipc);
     }
     if channel.is_spy() {
         return Err(Fault::Spy);
     }
-    Ok(Some(channel))
-}
-
-/// The address at which the datagrams of a channel arrive, if it has one.
-pub(crate) fn endpoint_of(channel: &str) -> Result<Option<Address>, Fault> {
-    match reaching(channel)? {
-        Some(channel) => Ok(channel.endpoint()),
-        None => Ok(None),
-    }
+    Ok(channel)
 }
 
 /// The address at which a channel's publication learns its subscribers, if it does.
-pub(crate) fn control_of(channel: &str) -> Result<Option<Address>, Fault> {
-    match reaching(channel)? {
-        Some(channel) if channel.is_dynamic() => Ok(channel.control()),
-        _ => Ok(None),
+pub(crate) fn control_of(channel: &Channel) -> Option<Address> {
+    if channel.is_dynamic() {
+        channel.control()
+    } else {
+        None
     }
 }
 

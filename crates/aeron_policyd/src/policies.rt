@@ -1,25 +1,30 @@
 //! What is asked of the policy in a file: the files are read, each once, and `policy_answers` answers.
 
 use crate::fault::Fault;
-use crate::files::{bytes_of, give_up};
+use crate::files::bytes_of;
 use crate::moments::{BadWord, at_of, soon_of, usual_moment};
 use crate::named::Named;
+use crate::saying::Saying;
 use crate::{USAGE, print_text};
 use command_line::{Asked, Asking, Question};
 use policy_answers::{
     Answer, AskFault, Place, Table, check, check_json, compare, compare_json, decide, decide_json,
-    explain, explain_json, find_faults, find_faults_json, refusal, rows_text, show, show_json,
-    table_of_all, table_of_all_json, table_of_one, table_of_one_json, try_cases, try_cases_json,
+    explain, explain_json, find_faults, find_faults_json, rows_text, show, show_json, table_of_all,
+    table_of_all_json, table_of_one, table_of_one_json, try_cases, try_cases_json,
 };
 use policy_query::{DecideFault, Document};
+use policy_text::PolicyFault;
 use policy_tools::CasesFault;
 use program_parts::{Disk, Machine};
+use std::fmt;
 use std::process::ExitCode;
 
 /// What is asked, with what was read for it.
 #[derive(Clone, Copy)]
 struct Read<'a> {
     asking: &'a Asking<'a>,
+    /// How a fault is said.
+    saying: Saying,
     names: &'a Named,
     policy: &'a Document<'a>,
     /// The file of cases that the question names, if it names one.
@@ -133,8 +138,8 @@ impl Read<'_> {
         let directory = &self.names.directory;
         let json = self.asking.json;
         match &self.asking.asked {
-            Asked::Check if json => check_json(alloc, self.policy, directory),
-            Asked::Check => check(alloc, self.policy, directory),
+            Asked::Check { .. } if json => check_json(alloc, self.policy, directory),
+            Asked::Check { .. } => check(alloc, self.policy, directory),
             Asked::Show if json => show_json(alloc, self.policy, directory),
             Asked::Show => show(alloc, self.policy, directory),
             Asked::Decide(question) => self.decided(rt, question),
@@ -167,17 +172,15 @@ impl Read<'_> {
     }
 
     /// Says what is wrong with the first file that is no policy: the policy's, or that of another one.
-    fn refuse<R: Machine>(&self, rt: &R) -> Result<Fault, Fault> {
-        let alloc = rt.alloc();
-        let names = self.names;
-        let directory = &names.directory;
-        let origin = names.origin(self.asking.policy);
-        if let Some(why) = refusal(alloc, self.policy, directory, origin)? {
-            return Ok(give_up(rt, &why));
+    fn refuse<R: Machine>(&self, rt: &R, fault: PolicyFault) -> Result<Fault, Fault> {
+        let (names, saying) = (self.names, self.saying);
+        let path = self.asking.policy;
+        if let Some(said) = names.refuse(rt, saying, path, self.policy, fault)? {
+            return Ok(said);
         }
         if let Asked::Diff(path) = &self.asking.asked {
-            if let Some(why) = refusal(alloc, self.new, directory, names.origin(path))? {
-                return Ok(give_up(rt, &why));
+            if let Some(said) = names.refuse(rt, saying, path, self.new, fault)? {
+                return Ok(said);
             }
         }
         Ok(Fault::NO_MEMORY)
@@ -237,6 +240,20 @@ fn soon_word<'a>(asked: &Asked<'a>) -> Option<&'a str> {
     }
 }
 
+/// A word of a question that is at fault.
+#[derive(Clone, Copy)]
+struct BadQuestion<'a> {
+    word: &'a str,
+    cause: AskFault,
+}
+
+impl fmt::Display for BadQuestion<'_> {
+    fn fmt<W: fmt::Write>(&self, f: &mut fmt::Formatter<W>) -> fmt::Result {
+        let BadQuestion { word, cause } = self;
+        write!(f, "{word}: {cause}")
+    }
+}
+
 /// Says what is wrong with a file of cases.
 fn refuse_cases<R: Machine>(rt: &R, path: &str, fault: CasesFault) -> Fault {
     let _ = match fault {
@@ -250,8 +267,16 @@ fn refuse_cases<R: Machine>(rt: &R, path: &str, fault: CasesFault) -> Fault {
     Fault::Said
 }
 
+/// Why a word is no channel, where it was to be one.
+fn with_cause(fault: AskFault) -> AskFault {
+    match fault {
+        AskFault::Decide(DecideFault::InvalidChannel(error)) => AskFault::Channel(error),
+        _ => fault,
+    }
+}
+
 /// Says why a question is not answered, with the word of it that is at fault.
-fn name_fault<R: Machine>(rt: &R, asked: &Asked<'_>, fault: AskFault) -> Fault {
+fn name_fault<R: Machine>(rt: &R, saying: Saying, asked: &Asked<'_>, fault: AskFault) -> Fault {
     let word = match (fault, asked) {
         (AskFault::Cases(fault), Asked::Test(path)) => return refuse_cases(rt, path, fault),
         (
@@ -269,8 +294,17 @@ fn name_fault<R: Machine>(rt: &R, asked: &Asked<'_>, fault: AskFault) -> Fault {
         (AskFault::UnknownPrincipal, Asked::Table { principal }) => principal.unwrap_or(""),
         _ => return Fault::Ask(fault),
     };
-    let _ = eprintln!(rt; "aeron_policyd: {word}: {fault}");
-    Fault::Said
+    let cause = with_cause(fault);
+    saying.give_up(rt, &fault, &BadQuestion { word, cause })
+}
+
+/// How a fault of a question is said. The answers to `check` and `decide` are read by other programs too.
+fn saying_of(asked: &Asked<'_>, is_terminal: bool) -> Saying {
+    match asked {
+        Asked::Check { places } => Saying::plain_or_both(*places || is_terminal),
+        Asked::Decide(_) => Saying::plain_or_both(is_terminal),
+        _ => Saying::Placed,
+    }
 }
 
 /// Reads the files, and answers what is asked at a moment.
@@ -278,13 +312,14 @@ fn read_and_answer<R: Machine, F: Disk>(
     rt: &R,
     files: &F,
     asking: &Asking<'_>,
+    saying: Saying,
     moment: u64,
     soon: Option<u64>,
 ) -> Result<ExitCode, Fault> {
-    let names = Named::read(rt, files, asking.names)?;
-    let policy = bytes_of(rt, files, asking.policy)?;
+    let names = Named::read(rt, files, saying, asking.names)?;
+    let policy = bytes_of(rt, files, saying, asking.policy)?;
     let other = match other_file(&asking.asked) {
-        Some(path) => bytes_of(rt, files, path)?,
+        Some(path) => bytes_of(rt, files, saying, path)?,
         None => Vec::new(rt.alloc()),
     };
     let (cases, new) = by_kind(&asking.asked, other.as_slice());
@@ -292,6 +327,7 @@ fn read_and_answer<R: Machine, F: Disk>(
     let new = Document::read(rt.alloc(), new)?;
     let read = Read {
         asking,
+        saying,
         names: &names,
         policy: &document,
         cases,
@@ -301,19 +337,21 @@ fn read_and_answer<R: Machine, F: Disk>(
     };
     match read.respond(rt) {
         Ok(printed) => printed,
-        Err(AskFault::Policy(_) | AskFault::Decide(DecideFault::Policy(_))) => {
-            Err(read.refuse(rt)?)
+        Err(AskFault::Policy(fault) | AskFault::Decide(DecideFault::Policy(fault))) => {
+            Err(read.refuse(rt, fault)?)
         }
-        Err(fault) => Err(name_fault(rt, &asking.asked, fault)),
+        Err(fault) => Err(name_fault(rt, saying, &asking.asked, fault)),
     }
 }
 
-/// Answers what is asked of the policy in a file.
+/// Answers what is asked of the policy in a file. Standard error may be a terminal.
 pub(crate) fn answer_asking<R: Machine, F: Disk>(
     rt: &R,
     files: &F,
     asking: &Asking<'_>,
+    is_terminal: bool,
 ) -> Result<ExitCode, Fault> {
+    let saying = saying_of(&asking.asked, is_terminal);
     let moment = match at_of(asking.at, usual_moment(rt, asking)?) {
         Ok(moment) => moment,
         Err(word) => return refuse(rt, word),
@@ -322,5 +360,5 @@ pub(crate) fn answer_asking<R: Machine, F: Disk>(
         Ok(soon) => soon,
         Err(word) => return refuse(rt, word),
     };
-    read_and_answer(rt, files, asking, moment, soon)
+    read_and_answer(rt, files, asking, saying, moment, soon)
 }

@@ -139,6 +139,7 @@ impl Progress {
             losses: station.losses(Naks::Heard),
         };
         let _ = eprintln!(station.rt; "{sent}");
+        let _ = station.say_dropped();
     }
 }
 

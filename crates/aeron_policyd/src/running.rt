@@ -119,35 +119,23 @@ fn exchange<N: DriverNaming, R: Machine>(
     say(rt, "nothing received")
 }
 
-/// The client subscribes and publishes, and sends itself the message. Whether each of its commands was answered.
-fn talk<N: DriverNaming, R: Machine>(
-    rt: &R,
-    client: &mut OwnClient<N, R>,
-    tries: u64,
-) -> Result<bool, Fault> {
-    let command = client.add_subscription(rt, CHANNEL, STREAM)?;
-    let answered = answer_within(client, command, tries)?;
-    let first = answered.is_some();
-    let subscription = registration_in(rt, answered, "subscription ready")?;
-    let command = client.add_publication(rt, CHANNEL, STREAM)?;
-    let answered = answer_within(client, command, tries)?;
-    let second = answered.is_some();
-    let publication = registration_in(rt, answered, "publication ready")?;
-    match (subscription, publication) {
-        (Some(subscription), Some(publication)) => {
-            exchange(rt, client, subscription, publication, tries)?;
-        }
-        _ => say(rt, "nothing received")?,
-    }
-    Ok(first && second)
-}
-
-/// The client sends itself a message, and what comes of it is printed. Each wait ends after so many tries. Whether each of its
-/// commands was answered.
+/// The client subscribes and publishes, and sends itself the message. What comes of it is printed. Each wait ends after so many
+/// tries.
 pub(crate) fn try_out<N: DriverNaming, R: Machine>(
     rt: &R,
     client: &mut OwnClient<N, R>,
     tries: u64,
-) -> Result<bool, Fault> {
-    talk(rt, client, tries)
+) -> Result<(), Fault> {
+    let command = client.add_subscription(rt, CHANNEL, STREAM)?;
+    let answered = answer_within(client, command, tries)?;
+    let subscription = registration_in(rt, answered, "subscription ready")?;
+    let command = client.add_publication(rt, CHANNEL, STREAM)?;
+    let answered = answer_within(client, command, tries)?;
+    let publication = registration_in(rt, answered, "publication ready")?;
+    match (subscription, publication) {
+        (Some(subscription), Some(publication)) => {
+            exchange(rt, client, subscription, publication, tries)
+        }
+        _ => say(rt, "nothing received"),
+    }
 }

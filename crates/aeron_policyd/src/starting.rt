@@ -3,30 +3,39 @@
 ghost use Rattle.driver_core.specs.Soundness.{AreSettings};
 ghost use Rattle.std.specs.Prelude.{IfOk};
 
+use crate::book::Book;
+use crate::clashing::clash;
+use crate::denials::Denials;
 use crate::fault::Fault;
-use crate::files::bytes_of;
-use crate::hosting::{Patience, Sources};
+use crate::files::{SharedFiles, bytes_of, regular_bytes_of};
+use crate::hosting::Patience;
 use crate::named::Named;
-use crate::one_client::{Task, Work, with_client};
+use crate::one_client::{Task, Trial, Work, with_client};
 use crate::options::{
-    NO_PUBLISHER, address_in, chooses, control_of, elicitation_of, endpoint_of, owned, peers_of,
-    publisher_address, refuse, settings_of,
+    NO_PUBLISHER, address_in, channel_of, chooses, control_of, elicitation_of, owned,
+    publisher_address, reaching, refuse, settings_of,
 };
 use crate::publishing::{Other, Publishing};
 use crate::replies::say;
+use crate::rereading::{Shelf, Sources};
+use crate::saying::{Saying, give_up};
 use crate::serving::{Work as Serve, serve_clients};
 use crate::station::Chores;
+use crate::strangers::{self, Bound, GREATEST, bound_by, window_on};
 use crate::subscribing::Subscribing;
 use channel_uri::Address;
 use command_line::{Doors, Join, Order, Reading, Start, Talk};
-use driver_core::Settings;
+use driver_core::{Peer, Settings};
 use piped_messages::Cut;
+use policy_core::Policy;
 use policy_text::Names;
-use program_parts::{Disk, Machine, SECOND};
+use policy_tools::plain;
+use program_parts::{Disk, Log, Machine, SECOND};
 use service_doors::{AskedBounds, Plan, Serving, Usual, mode_in, place_in};
 use service_records::Request;
 use service_remote::{Offering, Wanted, print_counters, print_order};
 use std::net::{Ipv4Addr, SocketAddrV4, UdpSocket};
+use std::sync::Arc;
 use wire_causes::Side;
 
 /// So many seconds, in nanoseconds.
@@ -104,23 +113,30 @@ fn principal_of<R: Machine>(rt: &R, names: &Named, name: &str) -> Result<u32, Fa
     }
 }
 
-/// Starts a driver under the policy in the file, and does the task.
+/// Starts a driver under the policy in the file, and does the task. What is wrong with the file is said so.
 fn begin<R: Machine, F: Disk>(
     rt: &R,
     files: &F,
     talk: &Talk<'_>,
+    saying: Saying,
     settings: Settings,
     side: Side,
     task: Task,
 ) -> Result<(), Fault>
     requires { AreSettings settings }
 {
-    let names = Named::read(rt, files, talk.names)?;
+    let names = Named::read(rt, files, saying, talk.names)?;
     let path = policy_of(talk)?;
-    let text = bytes_of(rt, files, path)?;
-    let policy = names.policy(rt, path, text.as_slice())?;
+    let text = bytes_of(rt, files, saying, path)?;
+    let policy = names.policy(rt, saying, path, text.as_slice())?;
     let principal = principal_of(rt, &names, talk.principal)?;
-    let peers = peers_of(rt, names.directory.names(), talk.peers)?;
+    let let_in = strangers::Wanted {
+        strangers: talk.strangers,
+        asks: talk.asks,
+        window: window_on(talk.channel, settings.term_length),
+        peers: talk.peers,
+    };
+    let bound = bound_by(rt, names.directory.names(), let_in)?;
     let chores = chores_of(rt, talk, text, names, settings.client_liveness)?;
     let work = Work {
         principal,
@@ -128,7 +144,7 @@ fn begin<R: Machine, F: Disk>(
         side,
         task,
     };
-    with_client(*rt, *files, settings, policy, peers.as_slice(), work)
+    with_client(*rt, *files, settings, policy, bound, work)
 }
 
 /// The addresses to which messages go too, with their channels.
@@ -154,6 +170,7 @@ fn publish<R: Machine, F: Disk>(
     to: &[&str],
 ) -> Result<(), Fault> {
     if let Some(path) = talk.driver {
+        let _ = channel_of(rt, talk.channel)?;
         let offering = Offering {
             channel: talk.channel,
             stream: talk.stream,
@@ -173,8 +190,9 @@ fn publish<R: Machine, F: Disk>(
         to,
         fail_on_gap: talk.fail_on_gap,
     };
-    let control = control_of(talk.channel)?;
-    let address = publisher_address(control.or(endpoint_of(talk.channel)?).or(first));
+    let channel = reaching(rt, talk.channel)?;
+    let control = control_of(&channel);
+    let address = publisher_address(control.or(channel.endpoint()).or(first));
     let settings = settings_for(rt, talk.settings, address)?;
     can_open(rt, settings.send_address)?;
     let mut side = Side::Sends;
@@ -182,7 +200,8 @@ fn publish<R: Machine, F: Disk>(
         can_open(rt, control)?;
         side = Side::Learns;
     }
-    begin(rt, files, talk, settings, side, Task::Publish(publishing))
+    let task = Task::Publish(publishing);
+    begin(rt, files, talk, Saying::Placed, settings, side, task)
 }
 
 /// Messages that come are printed.
@@ -197,6 +216,7 @@ fn subscribe<R: Machine, F: Disk>(
         if join.is_some() {
             return Err(Fault::OwnDriver);
         }
+        let _ = channel_of(rt, talk.channel)?;
         let wanted = Wanted {
             channel: talk.channel,
             stream: talk.stream,
@@ -218,7 +238,7 @@ fn subscribe<R: Machine, F: Disk>(
         wait: seconds(reading.wait),
         status_interval: 0,
     };
-    let endpoint = endpoint_of(talk.channel)?;
+    let endpoint = reaching(rt, talk.channel)?.endpoint();
     let join = elicitation_of(rt, join, endpoint, talk.stream)?;
     let mut settings = settings_for(rt, talk.settings, NO_PUBLISHER)?;
     settings.send_address = NO_PUBLISHER;
@@ -228,44 +248,60 @@ fn subscribe<R: Machine, F: Disk>(
     subscribing.join = join;
     subscribing.status_interval = settings.status_interval;
     let task = Task::Subscribe(subscribing);
-    begin(rt, files, talk, settings, Side::Receives, task)
+    let side = Side::Receives;
+    begin(rt, files, talk, Saying::Placed, settings, side, task)
 }
 
-/// Tries a driver with one client that sends itself a message.
-fn run<R: Machine, F: Disk>(
-    rt: &R,
-    files: &F,
-    policy: &str,
-    names: Option<&str>,
-    principal: &str,
-    tries: u64,
-) -> Result<(), Fault> {
-    let talk = Talk {
+/// The words of a trial. What is not chosen is `none`.
+fn trial_words<'a>(
+    policy: &'a str,
+    names: Option<&'a str>,
+    principal: &'a str,
+    none: Option<&'a str>,
+) -> Talk<'a> {
+    Talk {
         policy: Some(policy),
-        driver: None,
+        driver: none,
         names,
         principal,
         settings: &[],
         peers: &[],
+        strangers: none,
+        asks: None,
         channel: "",
         stream: 0,
         reload_every: None,
         stats: false,
         fail_on_gap: false,
-    };
+    }
+}
+
+/// Tries a driver with one client that sends itself a message. What is wrong with the policy's file is said so.
+fn run<'a, R: Machine, F: Disk>(
+    rt: &R,
+    files: &F,
+    policy: &'a str,
+    names: Option<&'a str>,
+    principal: &'a str,
+    saying: Saying,
+    trial: Trial,
+) -> Result<(), Fault> {
+    let talk = trial_words(policy, names, principal, None);
     begin(
         rt,
         files,
         &talk,
+        saying,
         Settings::default(),
         Side::Sends,
-        Task::TryOut { tries },
+        Task::TryOut(trial),
     )?;
     say(rt, "stopped")
 }
 
 /// What is wanted where a door is named.
-const DOOR: &str = "wanted PRINCIPAL, PRINCIPAL=UID, PRINCIPAL=UID:GID or PRINCIPAL=PATH";
+const DOOR: &str =
+    "wanted PRINCIPAL, PRINCIPAL=UID, PRINCIPAL=UID:GID or PRINCIPAL=PATH; no part of a path is empty, begins with `.`, or has `..` or a control byte";
 
 /// The doors that words name.
 fn plans_of<'a, R: Machine>(
@@ -276,16 +312,21 @@ fn plans_of<'a, R: Machine>(
     let mut plans = Vec::new(rt.alloc());
     for word in words {
         let Some((name, place)) = place_in(word) else {
-            return Err(refuse(rt, "--door", word, DOOR));
+            let shown = plain(rt.alloc(), word)?;
+            return Err(refuse(rt, "--door", shown.as_str(), DOOR));
         };
         let Some(principal) = names.number_of(name) else {
             return Err(refuse(rt, "--door", word, "unknown principal"));
         };
-        plans.push(Plan {
+        let plan = Plan {
             principal,
             name,
             place,
-        })?;
+        };
+        if let Some(why) = clash(rt.alloc(), plans.as_slice(), &plan)? {
+            return Err(give_up(rt, &why));
+        }
+        plans.push(plan)?;
     }
     Ok(plans)
 }
@@ -293,14 +334,16 @@ fn plans_of<'a, R: Machine>(
 /// How a driver is to serve.
 fn serving_of(doors: &Doors<'_>, settings: &Settings) -> Serving {
     let asked = AskedBounds {
+        each: doors.each,
         publications: doors.publications,
         pages: doors.pages,
         subscriptions: doors.subscriptions,
         counters: doors.counters,
     };
+    let count = doors.doors.len() as u64;
     Serving {
-        each: doors.each,
-        bounds: asked.bounds(u64::from(settings.arena_pages), doors.doors.len() as u64),
+        each: asked.each(count),
+        bounds: asked.bounds(u64::from(settings.arena_pages), count),
         usual: Usual {
             term_length: settings.term_length,
             linger: settings.linger,
@@ -310,48 +353,142 @@ fn serving_of(doors: &Doors<'_>, settings: &Settings) -> Serving {
     }
 }
 
-/// How long its clients may be silent, and read nothing.
+/// How long its clients may be silent, and have something to read and not go on.
 fn patience_of(doors: &Doors<'_>, settings: &Settings) -> Patience {
+    let unread = match doors.poll_within {
+        0 => None,
+        within => Some(seconds(within)),
+    };
     Patience {
         liveness: settings.client_liveness,
-        unread: doors.poll_within.map(seconds),
+        unread,
     }
 }
 
 /// A driver that serves may go without an address from which it sends, if none was chosen: its clients then have IPC, and what
 /// comes over UDP. It is said.
-fn say_if_taken<R: Machine>(rt: &R, words: &[&str], address: Address) -> Result<(), Fault> {
+fn say_if_taken<R: Machine>(
+    rt: &R,
+    log: &Arc<Log>,
+    words: &[&str],
+    address: Address,
+) -> Result<(), Fault> {
     match can_open(rt, address) {
         Ok(()) => Ok(()),
         Err(fault) if chooses(words, "send-address") => Err(fault),
         Err(fault) => {
-            let _ = eprintln!(*rt;
+            let text = format!(in rt.alloc();
                 "{fault}: nothing is sent over UDP, unless --setting send-address names a free address"
             );
+            log.say(rt, text);
             Ok(())
         }
     }
 }
 
-/// A driver serves clients of other processes.
-fn serve<R: Machine, F: Disk>(rt: &R, files: &F, doors: &Doors<'_>) -> Result<(), Fault> {
+/// Where is said what happens at the doors.
+fn log_for<R: Machine>(rt: &R, plans: &[Plan<'_>]) -> Result<Arc<Log>, Fault> {
+    let log = Log::open(*rt)?;
+    for plan in plans {
+        log.pace(rt, plan.principal, plan.name)?;
+    }
+    Ok(log)
+}
+
+/// What a driver that serves takes from its files and from the words that use their names.
+#[derive(Drop)]
+struct Orders<'a> {
+    policy: Policy,
+    bound: Bound,
+    plans: Vec<Plan<'a>>,
+    /// The policy's file.
+    shelf: Arc<Shelf>,
+    /// What its rules and the principals are called.
+    book: Book,
+}
+
+/// From where datagrams may come, and at which doors clients come in. What is wrong with the words is said on standard error.
+fn ways_in<'a, R: Machine>(
+    rt: &R,
+    names: &Names,
+    doors: &Doors<'a>,
+) -> Result<(Bound, Vec<Plan<'a>>), Fault> {
+    let let_in = strangers::Wanted {
+        strangers: doors.strangers,
+        asks: doors.asks,
+        window: GREATEST,
+        peers: doors.peers,
+    };
+    let bound = bound_by(rt, names, let_in)?;
+    let plans = plans_of(rt, names, doors.doors)?;
+    Ok((bound, plans))
+}
+
+/// Reads the files of a driver that serves. What is wrong with them is said on standard error.
+fn orders_of<'a, R: Machine, F: Disk>(
+    rt: &R,
+    files: &F,
+    doors: &Doors<'a>,
+) -> Result<Orders<'a>, Fault> {
     let alloc = rt.alloc();
+    let saying = Saying::Placed;
+    let names = Named::read(rt, files, saying, doors.names)?;
+    let text = regular_bytes_of(rt, files, saying, doors.policy)?;
+    let policy = names.policy(rt, saying, doors.policy, text.as_slice())?;
+    let book = Book::of(alloc, &names.directory, &policy, 1)?;
+    let (bound, plans) = ways_in(rt, names.directory.names(), doors)?;
+    let sources = Sources::new(alloc, doors.policy, text, names)?;
+    let shelf = Shelf::new(alloc, sources)?;
+    Ok(Orders {
+        policy,
+        bound,
+        plans,
+        shelf,
+        book,
+    })
+}
+
+/// What a driver that serves is asked to do.
+fn work_of<R: Machine>(
+    rt: &R,
+    doors: &Doors<'_>,
+    settings: &Settings,
+    policy: Arc<Shelf>,
+    log: Arc<Log>,
+    book: Book,
+) -> Result<Serve, Fault> {
+    let denials = Denials::new(rt.alloc(), &log, book)?;
+    Ok(Serve {
+        serving: serving_of(doors, settings),
+        patience: patience_of(doors, settings),
+        policy,
+        log,
+        denials,
+    })
+}
+
+/// A driver serves clients of other processes.
+fn serve<R: Machine, F: Disk + SharedFiles>(
+    rt: &R,
+    files: &F,
+    doors: &Doors<'_>,
+) -> Result<(), Fault> {
     let Some(mode) = mode_in(doors.mode) else {
         let why = "wanted up to four digits of base 8, as 660";
         return Err(refuse(rt, "--mode", doors.mode, why));
     };
-    let names = Named::read(rt, files, doors.names)?;
-    let text = bytes_of(rt, files, doors.policy)?;
-    let policy = names.policy(rt, doors.policy, text.as_slice())?;
-    let peers = peers_of(rt, names.directory.names(), doors.peers)?;
-    let plans = plans_of(rt, names.directory.names(), doors.doors)?;
+    let orders = orders_of(rt, files, doors)?;
     let settings = settings_for(rt, doors.settings, publisher_address(None))?;
-    say_if_taken(rt, doors.settings, settings.send_address)?;
-    let work = Serve {
-        serving: serving_of(doors, &settings),
-        patience: patience_of(doors, &settings),
-        sources: Sources::new(alloc, doors.policy, text, names)?,
-    };
+    let log = log_for(rt, orders.plans.as_slice())?;
+    say_if_taken(rt, &log, doors.settings, settings.send_address)?;
+    let Orders {
+        policy,
+        bound,
+        plans,
+        shelf,
+        book,
+    } = orders;
+    let work = work_of(rt, doors, &settings, shelf, log, book)?;
     serve_clients(
         *rt,
         *files,
@@ -360,7 +497,7 @@ fn serve<R: Machine, F: Disk>(rt: &R, files: &F, doors: &Doors<'_>) -> Result<()
         mode,
         settings,
         policy,
-        peers.as_slice(),
+        bound,
         work,
     )
 }
@@ -380,15 +517,25 @@ fn give_order<R: Machine, F: Disk>(
     Ok(print_order(rt, files, path, request)?)
 }
 
-/// Does what a subcommand that starts a driver is asked to do.
-pub(crate) fn start<R: Machine, F: Disk>(rt: &R, files: &F, asked: Start<'_>) -> Result<(), Fault> {
+/// Does what a subcommand that starts a driver is asked to do. Standard error may be a terminal.
+pub(crate) fn start<R: Machine, F: Disk + SharedFiles>(
+    rt: &R,
+    files: &F,
+    asked: Start<'_>,
+    is_terminal: bool,
+) -> Result<(), Fault> {
     match asked {
         Start::Run {
             policy,
             names,
             principal,
             tries,
-        } => run(rt, files, policy, names, principal, tries),
+            audit,
+        } => {
+            let saying = Saying::plain_or_both(is_terminal);
+            let trial = Trial { tries, audit };
+            run(rt, files, policy, names, principal, saying, trial)
+        }
         Start::Publish {
             talk,
             by,

@@ -3,10 +3,12 @@
 
 use crate::causes::{Causes, total};
 use crate::fault::Fault;
-use crate::files::{Unread, file_bytes};
+use crate::files::{Unread, still_bytes};
 use crate::named::Named;
 use crate::reported::Notes;
+use crate::strangers::dropped_line;
 use byte_strings::Text;
+use guarded_wire::Drops;
 use media_driver::{
     Client, ClientReply, Driver, DriverNaming, MachineClock, Miss, PushFault, ReloadFault,
 };
@@ -64,6 +66,8 @@ pub(crate) struct Ties {
     pub(crate) notes: Arc<Notes>,
     /// What wakes the client.
     pub(crate) bell: Arc<Parker>,
+    /// What is dropped at its sockets.
+    pub(crate) drops: Arc<Drops>,
 }
 
 impl Ties {
@@ -72,6 +76,7 @@ impl Ties {
         Ok(Ties {
             notes: Arc::try_clone(&self.notes)?,
             bell: Arc::try_clone(&self.bell)?,
+            drops: Arc::try_clone(&self.drops)?,
         })
     }
 }
@@ -197,6 +202,14 @@ impl<N: DriverNaming + Send + Sync + 'static, R: Machine, F: Disk> Station<N, R,
         }
     }
 
+    /// Says how many datagrams were dropped as they came, if any were.
+    pub(crate) fn say_dropped(&self) -> Result<(), AllocError> {
+        if let Some(line) = dropped_line(self.rt.alloc(), &self.ties.drops)? {
+            report(&self.rt, line.as_str());
+        }
+        Ok(())
+    }
+
     /// The next reply to the client.
     pub(crate) fn next_reply(&mut self) -> Option<ClientReply> {
         let mail = self.client.next_mail()?;
@@ -231,13 +244,15 @@ impl<N: DriverNaming + Send + Sync + 'static, R: Machine, F: Disk> Station<N, R,
         }
         self.due.reload = now.saturating_add(every);
         let path = self.chores.policy.as_str();
-        match file_bytes(&self.files, path) {
+        match still_bytes(&self.rt, &self.files, path) {
             Ok(bytes) => {
                 if bytes.as_slice() != self.chores.text.as_slice() {
                     self.put_in_force(bytes.as_slice())?;
                     self.chores.text = bytes;
                 }
             }
+            // it is read at the next turn
+            Err(Fault::Written) => {}
             Err(fault) => {
                 let unread = Unread { path, fault };
                 let _ = eprintln!(self.rt; "policy refused: {unread}");

@@ -102,6 +102,7 @@ impl<N: DriverNaming + Send + Sync + 'static, R: Machine, F: Disk> Station<N, R,
             losses: self.losses(Naks::Asked),
         };
         let _ = eprintln!(self.rt; "{received}");
+        let _ = self.say_dropped();
     }
 
     /// All replies that are there are taken. A line says of each stream that goes that it is gone, and of each one that comes

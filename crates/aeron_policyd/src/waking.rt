@@ -10,6 +10,9 @@ use std::thread::Parker;
 pub(crate) trait Sleepers {
     /// Something may have come.
     fn wake(&self);
+
+    /// An agent that carries messages has something to do.
+    fn agent_works(&self);
 }
 
 /// Those who sleep at the doors of a driver that serves.
@@ -23,6 +26,10 @@ impl<R: Machine> Sleepers for AtDoors<R> {
     fn wake(&self) {
         self.bells.ring(&self.rt);
     }
+
+    fn agent_works(&self) {
+        self.bells.agent_works(&self.rt);
+    }
 }
 
 /// The one client of a driver in its own process.
@@ -35,6 +42,8 @@ impl Sleepers for AtHome {
     fn wake(&self) {
         self.bell.unpark();
     }
+
+    fn agent_works(&self) {}
 }
 
 /// Each agent passes as those of any driver that runs. Who sleeps is woken once the conductor took events, to which it may have
@@ -55,6 +64,9 @@ impl<R: Machine, S: Sleepers + Drop> Gate for Waking<R, S> {
     fn pass(&self, agent: Agent, turn: Turn, sockets: &[i32]) {
         if turn.idle == 0 && agent != Agent::Sender {
             self.sleepers.wake();
+        }
+        if turn.idle == 0 && agent != Agent::Conductor {
+            self.sleepers.agent_works();
         }
         self.inner.pass(agent, turn, sockets);
     }

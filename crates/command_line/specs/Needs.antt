@@ -66,7 +66,7 @@ abbrev pub serve_needs : Needs
 serve_needs = record {
   texts = codes "policy" ∷ codes "folder" ∷ codes "mode" ∷ [];
   signed = [];
-  numbers = codes "each" ∷ [];
+  numbers = codes "poll-within" ∷ [];
   together = [];
 }
 

@@ -39,7 +39,7 @@ question_texts question =
     ∷ (codes "CHANNEL", Some question.channel.now) ∷ []
 
 abbrev pub asked_texts : Asked → Texts
-asked_texts asks.Check = []
+asked_texts (asks.Check places) = []
 asked_texts asks.Show = []
 asked_texts (asks.Decide question) = question_texts question
 asked_texts (asks.Explain question near) = question_texts question
@@ -61,7 +61,7 @@ abbrev pub talk_texts : Talk → Texts
 talk_texts talk =
     (codes "policy", option_copied talk.policy) ∷ (codes "driver", option_copied talk.driver)
     ∷ (codes "names", option_copied talk.names) ∷ (codes "as", Some talk.principal.now)
-    ∷ (codes "CHANNEL", Some talk.channel.now) ∷ []
+    ∷ (codes "CHANNEL", Some talk.channel.now) ∷ (codes "strangers", option_copied talk.strangers) ∷ []
 
 abbrev pub joined_texts : Option Join → Texts
 joined_texts join = (codes "control", option_map (λ j. j.control.now) join) ∷ []
@@ -69,10 +69,11 @@ joined_texts join = (codes "control", option_map (λ j. j.control.now) join) ∷
 abbrev pub doors_texts : Doors → Texts
 doors_texts doors =
     (codes "policy", Some doors.policy.now) ∷ (codes "names", option_copied doors.names)
-    ∷ (codes "folder", Some doors.folder.now) ∷ (codes "mode", Some doors.mode.now) ∷ []
+    ∷ (codes "folder", Some doors.folder.now) ∷ (codes "mode", Some doors.mode.now)
+    ∷ (codes "strangers", option_copied doors.strangers) ∷ []
 
 abbrev pub start_texts : Start → Texts
-start_texts (starts.Run policy names principal tries) =
+start_texts (starts.Run policy names principal tries audit) =
     (codes "policy", Some policy.now) ∷ (codes "names", option_copied names) ∷ (codes "as", Some principal.now) ∷ []
 start_texts (starts.Publish talk by wait linger to) = talk_texts talk
 start_texts (starts.Subscribe talk join reading) = joined_texts join ++ talk_texts talk
@@ -98,7 +99,7 @@ abbrev pub joined_numbers : Option Join → Numbers
 joined_numbers join = (codes "session", option_map (λ j. j.session) join) ∷ []
 
 abbrev pub start_numbers : Start → Numbers
-start_numbers (starts.Run policy names principal tries) = []
+start_numbers (starts.Run policy names principal tries audit) = []
 start_numbers (starts.Publish talk by wait linger to) = stream_alone talk.stream
 start_numbers (starts.Subscribe talk join reading) = joined_numbers join ++ stream_alone talk.stream
 start_numbers (starts.Serve doors) = []
@@ -127,7 +128,7 @@ every_word =
     words.Check ∷ words.Decide ∷ words.Show ∷ words.Explain ∷ words.Lint ∷ words.Test ∷ words.Table ∷ words.Diff ∷ []
 
 abbrev pub asked_word : Asked → Word
-asked_word asks.Check = words.Check
+asked_word (asks.Check places) = words.Check
 asked_word asks.Show = words.Show
 asked_word (asks.Decide question) = words.Decide
 asked_word (asks.Explain question near) = words.Explain
@@ -146,7 +147,7 @@ order_name orders.Reload = codes "reload"
 order_name orders.Status = codes "clients"
 
 abbrev pub start_name : Start → List ℕ
-start_name (starts.Run policy names principal tries) = codes "run"
+start_name (starts.Run policy names principal tries audit) = codes "run"
 start_name (starts.Publish talk by wait linger to) = codes "publish"
 start_name (starts.Subscribe talk join reading) = codes "subscribe"
 start_name (starts.Serve doors) = codes "serve"

@@ -4,6 +4,7 @@
 mod message_words;
 mod numbers;
 mod policy_words;
+mod rows;
 mod running_line;
 mod serving_line;
 mod whole_line;

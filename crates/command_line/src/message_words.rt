@@ -5,12 +5,35 @@ ghost use Rattle.command_line.specs.Needs.{Answers, message_needs};
 ghost use Rattle.command_line.specs.Tasks.{AreFirst, messages_name, messages_texts};
 ghost use Rattle.std.specs.Prelude.{◌≡◌, IfSome};
 
-use crate::whole_line::with;
-use clap::{Arg, ArgAction, ArgMatches, Command};
-use std::alloc::{AllocError, Global};
+use crate::rows::{Form, PLACED, PLACED_AGAIN, Row};
+use clap::ArgMatches;
 
-/// What `encode` says.
-const ENCODE: &str = "\
+/// What `encode` is asked for.
+const WORD: Row = Row {
+    id: "WORD",
+    help: "A name, and then KEY=VALUE for each of its keys",
+    ..PLACED_AGAIN
+};
+
+const KIND: Row = Row {
+    id: "KIND",
+    help: "What it is: command, reply or datagram",
+    ..PLACED
+};
+
+const HEX: Row = Row {
+    id: "HEX",
+    help: "Its bytes, two digits a byte, with `_` between them where you like",
+    ..PLACED
+};
+
+/// `encode`.
+pub(crate) const ENCODE: Form = Form {
+    name: "encode",
+    about: "Prints the hexadecimal of a command or a datagram that words denote",
+    places: &[WORD],
+    options: &[],
+    after: "\
 Example: the command by which client 1 asks to read stream 10 of this host, for a line `cmd` of a script.
 
   $ aeron_policyd encode add-subscription client=1 correlation=11 stream=10 channel=aeron:ipc
@@ -38,10 +61,16 @@ brackets need not be given:
 Numbers are decimal; flags, key, token and payload are hexadecimal; channel and label are texts, or hexadecimal as channel-hex
 and label-hex.
 
-Status: 0; 1 after `aeron_policyd: FAULT` on standard error; 2 for a usage error.";
+Status: 0; 1 after `aeron_policyd: FAULT` on standard error; 2 for a usage error.",
+};
 
-/// What `decode` says.
-const DECODE: &str = "\
+/// `decode`.
+pub(crate) const DECODE: Form = Form {
+    name: "decode",
+    about: "Prints the words of a command, a reply or a datagram",
+    places: &[KIND, HEX],
+    options: &[],
+    after: "\
 Example: a reply that a script wrote, and the command that it answers.
 
   $ aeron_policyd decode reply 010f00000b00000000000000e90300001d00000064656e6965642062792064656661756c7420696e20706f6c6963792031
@@ -52,7 +81,8 @@ Example: a reply that a script wrote, and the command that it answers.
 A command and a reply have one line, a datagram has one for each frame. What `encode` gave has the same fields again. Bytes
 that are no command, no reply or no datagram are refused with the driver's word for the cause.
 
-Status: 0; 1 after `aeron_policyd: FAULT` on standard error; 2 for a usage error.";
+Status: 0; 1 after `aeron_policyd: FAULT` on standard error; 2 for a usage error.",
+};
 
 /// What is asked of a message.
 #[derive(Clone, Copy)]
@@ -61,41 +91,6 @@ pub enum Messages<'a> {
     Encode(&'a [&'a str]),
     /// The words of what hexadecimal is: a command, a reply or a datagram, as a word says.
     Decode { kind: &'a str, hex: &'a str },
-}
-
-fn encode<'a>(alloc: Global) -> Result<Command<'a>, AllocError> {
-    let words = Arg::new(alloc, "WORD")
-        .required(true)
-        .action(ArgAction::Append)
-        .num_args(1..)
-        .help("A name, and then KEY=VALUE for each of its keys");
-    Command::new(alloc, "encode")
-        .about("Prints the hexadecimal of a command or a datagram that words denote")
-        .after_help(ENCODE)
-        .arg(words)
-}
-
-fn decode<'a>(alloc: Global) -> Result<Command<'a>, AllocError> {
-    let kind = Arg::new(alloc, "KIND")
-        .required(true)
-        .help("What it is: command, reply or datagram");
-    let hex = Arg::new(alloc, "HEX").required(true).help(
-        "Its bytes, two digits a byte, with `_` between them where you like",
-    );
-    Command::new(alloc, "decode")
-        .about("Prints the words of a command, a reply or a datagram")
-        .after_help(DECODE)
-        .arg(kind)?
-        .arg(hex)
-}
-
-/// Adds the words that ask for bytes or words of a message.
-pub(crate) fn with_messages<'a>(
-    alloc: Global,
-    command: Command<'a>,
-) -> Result<Command<'a>, AllocError> {
-    let command = with(command, encode(alloc))?;
-    with(command, decode(alloc))
 }
 
 /// What the words of such a subcommand ask, if it is one.

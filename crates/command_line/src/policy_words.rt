@@ -7,18 +7,137 @@ ghost use Rattle.std.specs.List.{AllByRecursion};
 ghost use Rattle.std.specs.Prelude.{◌≡◌, ◌∷◌, [], IfSome, Some, codes, is_some, true};
 
 use crate::numbers::{number_in, signed_in};
-use crate::whole_line::with;
-use clap::{Arg, ArgAction, ArgMatches, Command, value_parser};
-use std::alloc::{AllocError, Global};
+use crate::rows::{FLAG, Form, NATURAL, OPTION, PLACED, Row};
+use clap::ArgMatches;
+use clap::builder::ValueParser;
 
-/// What `check` says.
-const CHECK: &str = "\
+/// The policy's file.
+const POLICY: Row = Row {
+    id: "POLICY",
+    help: "The policy's file, of at most 16,777,216 bytes",
+    ..PLACED
+};
+
+const PRINCIPAL: Row = Row {
+    id: "PRINCIPAL",
+    help: "Who asks: nobody, p1 to p63, or a name that --names gives",
+    ..PLACED
+};
+
+const ACT: Row = Row {
+    id: "ACT",
+    help: "What is asked, one of the acts below",
+    ..PLACED
+};
+
+const CHANNEL: Row = Row {
+    id: "CHANNEL",
+    help: "On which channel, such as aeron:ipc; aeron:counter where a counter is meant",
+    ..PLACED
+};
+
+const STREAM: Row = Row {
+    id: "STREAM",
+    takes: NATURAL,
+    help: "On which stream, 0 to 2147483647; for a counter its type id",
+    ..PLACED
+};
+
+/// The file of the cases that `test` runs.
+const CASES: Row = Row {
+    id: "CASES",
+    help: "The file of the cases, of at most 16,777,216 bytes",
+    ..PLACED
+};
+
+/// The file of the policy with which `diff` compares.
+const NEW: Row = Row {
+    id: "NEW",
+    help: "The file of the policy that would take its place, of at most 16,777,216 bytes",
+    ..PLACED
+};
+
+/// The file of the principals' names.
+pub(crate) const NAMES: Row = Row {
+    id: "names",
+    value: &["FILE"],
+    help: "Names of principals, lines `principal NAME NUMBER`, instead of p1 to p63",
+    ..OPTION
+};
+
+/// The moment at which a policy is asked.
+const AT: Row = Row {
+    id: "at",
+    value: &["MOMENT"],
+    help: "When it is asked: nanoseconds since 1970, or a date as 2026-12-01T08:00:00Z; 0 if not given",
+    ..OPTION
+};
+
+/// The moment at which `lint` looks at a policy.
+const LOOKED_AT: Row = Row {
+    help: "When it is looked at: nanoseconds since 1970, or a date as 2026-12-01T08:00:00Z; now if not given",
+    ..AT
+};
+
+/// How soon a rule has to end, so that it is warned of.
+const SOON: Row = Row {
+    id: "soon",
+    value: &["PERIOD"],
+    help: "Warns of rules that end within this: a number and d, h, m or s, as 7d, or nanoseconds",
+    ..OPTION
+};
+
+/// Whether it is said where the first fault is.
+const PLACES: Row = Row {
+    id: "places",
+    help: "Says where the first fault is, too, as on a terminal",
+    ..FLAG
+};
+
+/// Whether the answer is JSON.
+const JSON: Row = Row {
+    id: "json",
+    help: "Prints the answer as JSON, on one line",
+    ..FLAG
+};
+
+/// How many rules are explained at most.
+const NEAR: Row = Row {
+    id: "near",
+    value: &["N"],
+    takes: ValueParser::Unsigned(0, 1024),
+    help: "Names only the N rules that come nearest to a match, nearest first",
+    ..OPTION
+};
+
+/// Whether a warning counts as a fault.
+const STRICT: Row = Row {
+    id: "strict",
+    help: "Ends with status 1 where there is a warning, too",
+    ..FLAG
+};
+
+/// Whose rows alone `table` shows.
+const OF_PRINCIPAL: Row = Row {
+    id: "principal",
+    value: &["PRINCIPAL"],
+    help: "Shows the rows of this principal alone",
+    ..OPTION
+};
+
+/// `check`.
+pub(crate) const CHECK: Form = Form {
+    name: "check",
+    about: "Validates a policy: says how many rules it has, or its first fault",
+    places: &[POLICY],
+    options: &[PLACES, JSON, NAMES],
+    after: "\
 Example: a policy of two rules, and one whose first rule has its range of streams reversed.
 
   $ aeron_policyd check policy.toml
   ok: 2 rules
   $ aeron_policyd check swapped.toml
-  aeron_policyd: swapped.toml:9:1: rule 1 (the house keeps streams 10 to 20): stream = [20, 10]: the range is reversed: wanted [LOW, HIGH]
+  aeron_policyd: rule 1: bad range
 
 A policy is TOML: `version = 1`, `default = \"allow\"` or `\"deny\"`, and any `[[rule]]` with `name`, `principal`, `act`,
 `channel`, `allow` and perhaps `stream = [LOW, HIGH]`. With `version = 2` a rule may hold from `from` on and up to `until`, in
@@ -27,18 +146,28 @@ nanoseconds since 1970. Principals are `nobody` and `p1` to `p63`, or `*` for ev
 With --names FILE principals have the names of that file, whose lines are `principal NAME NUMBER` as in a script.
 
   $ aeron_policyd check named.toml
-  aeron_policyd: named.toml:6:1: rule 1 (the gateway publishes orders): principal = \"gateway\": no such principal
+  aeron_policyd: rule 1: unknown principal
   $ aeron_policyd check --names desk.names named.toml
   ok: 1 rules
 
-The fault is the first one that `lint` reports; where there are more, the line ends in `see: aeron_policyd lint FILE`. With --json
-the answer is `{\"rules\":2}`.
+With --places, and where standard error is a terminal, a second line says where the fault is and what is wanted, in the words of
+`lint`; where there are more faults it ends in `see: aeron_policyd lint FILE`. With --json the answer is `{\"rules\":2}`.
+
+  $ aeron_policyd check --places swapped.toml
+  aeron_policyd: rule 1: bad range
+  swapped.toml:9:1: rule 1 (the house keeps streams 10 to 20): stream = [20, 10]: the range is reversed: wanted [LOW, HIGH]
 
 Status: 0; 1 after `aeron_policyd: FAULT` on standard error: a file that can't be read, or is larger than 16 MiB; the first
-fault of the names or of the policy; write failed; no memory. 2 for a usage error.";
+fault of the names or of the policy; write failed; no memory. 2 for a usage error.",
+};
 
-/// What `decide` says.
-const DECIDE: &str = "\
+/// `decide`.
+pub(crate) const DECIDE: Form = Form {
+    name: "decide",
+    about: "Says what a policy decides of a request, and by which rule",
+    places: &[POLICY, PRINCIPAL, ACT, CHANNEL, STREAM],
+    options: &[AT, JSON, NAMES],
+    after: "\
 Example: rule 1 of the policy denies everybody streams 10 to 20; rule 2 allows p1 to subscribe to `aeron:ipc`.
 
   $ aeron_policyd decide policy.toml p1 subscribe aeron:ipc 10
@@ -48,7 +177,7 @@ Example: rule 1 of the policy denies everybody streams 10 to 20; rule 2 allows p
   $ aeron_policyd decide policy.toml p2 subscribe aeron:ipc 9
   denied by default in policy 1
   $ aeron_policyd decide policy.toml p64 subscribe aeron:ipc 9
-  aeron_policyd: p64: unknown principal
+  aeron_policyd: unknown principal
 
 The first rule that matches decides, whatever the others say; where none does, the default stands. Acts are publish,
 publish-exclusive, subscribe, spy, destination, counter, terminate, offer, image, receive, send, retransmit, join
@@ -74,10 +203,16 @@ With --json the answer is an object, whose `rule` is null where the default deci
   {\"allow\":true,\"policy\":1,\"rule\":2}
 
 Status: 0, whatever the policy decides; 1 after `aeron_policyd: FAULT` on standard error, the first of: a fault of a file, as
-`check` has it; unknown principal; unknown act; invalid channel; write failed; no memory. 2 for a usage error.";
+`check` has it; unknown principal; unknown act; invalid channel; write failed; no memory. 2 for a usage error.",
+};
 
-/// What `show` says.
-const SHOW: &str = "\
+/// `show`.
+pub(crate) const SHOW: Form = Form {
+    name: "show",
+    about: "Lists the rules of a policy with their numbers",
+    places: &[POLICY],
+    options: &[JSON, NAMES],
+    after: "\
 Example: a verdict says `rule 2`; which one is that?
 
   $ aeron_policyd show policy.toml
@@ -98,10 +233,16 @@ With --names FILE principals have the names of that file, whose lines are `princ
 to p63. A principal that has no name there is written by its number, as `#7`. With --json the answer is an object with the
 rules and the default.
 
-Status: 0; 1 after `aeron_policyd: FAULT` on standard error, as of `check`; 2 for a usage error.";
+Status: 0; 1 after `aeron_policyd: FAULT` on standard error, as of `check`; 2 for a usage error.",
+};
 
-/// What `explain` says.
-const EXPLAIN: &str = "\
+/// `explain`.
+pub(crate) const EXPLAIN: Form = Form {
+    name: "explain",
+    about: "Says what a policy decides of a request, and why",
+    places: &[POLICY, PRINCIPAL, ACT, CHANNEL, STREAM],
+    options: &[AT, JSON, NAMES, NEAR],
+    after: "\
 Example: may p1 subscribe to `aeron:ipc`, stream 9, may p2, and why?
 
   $ aeron_policyd explain policy.toml p1 subscribe aeron:ipc 9
@@ -136,37 +277,16 @@ of which two do not, and so on.
 
 With --json the answer is an object with the decision and with `misses`, a list of these rules.
 
-Status: 0, whatever the policy decides; 1 after `aeron_policyd: FAULT` on standard error, as of `decide`; 2 for a usage error.";
+Status: 0, whatever the policy decides; 1 after `aeron_policyd: FAULT` on standard error, as of `decide`; 2 for a usage error.",
+};
 
-/// What `test` says.
-const TEST: &str = "\
-Example: four questions with the answers that are wanted, one of which the policy does not give.
-
-  $ cat wanted.cases
-  # PRINCIPAL ACT CHANNEL STREAM allow|deny [by RULE | by default]
-  p1 subscribe aeron:ipc 9 allow
-  p1 subscribe aeron:ipc 10 deny by 1
-  p2 subscribe aeron:ipc 9 deny by default
-  p2 subscribe aeron:ipc 10 deny by default
-  $ aeron_policyd test policy.toml wanted.cases
-  line 5: p2 subscribe aeron:ipc 10 deny by default: denied by rule 1 in policy 1
-  3 passed, 1 failed
-
-A case is a question, the word that is wanted, and perhaps by what: the number of a rule, its name in quotes, or the default.
-Words have spaces between them, one or more. Principals and acts may be several, with commas between them, and streams a range,
-as 10..20; `*` is each act, or each stream. Then all of it has to be decided so. Empty lines, and those that begin with `#`, say
-nothing. With --at all are asked at that moment:
-
-  $ aeron_policyd test --names desk.names --at 2026-12-01T08:00:00Z operating/hours.toml operating/hours.cases
-  3 passed, 0 failed
-  $ aeron_policyd test --names desk.names --at 2026-12-01T18:00:00Z operating/hours.toml operating/after_hours.cases
-  3 passed, 0 failed
-
-Status: 0 where each case passes; 1 where one fails, and after `aeron_policyd: FAULT` on standard error: those of `check`, the
-first line that is no case, as `wanted.cases:5:4: unknown act`, or that there is no case; 2 for a usage error.";
-
-/// What `lint` says.
-const LINT: &str = "\
+/// `lint`.
+pub(crate) const LINT: Form = Form {
+    name: "lint",
+    about: "Reports errors and suspicious rules",
+    places: &[POLICY],
+    options: &[STRICT, LOOKED_AT, SOON, JSON, NAMES],
+    after: "\
 Example: nothing is wrong with one policy, and a range of another one ends before it begins.
 
   $ aeron_policyd lint policy.toml
@@ -192,10 +312,49 @@ With --json the answer is an object with the faults and the warnings, each with 
 
 Status: 0; 1 where there is a fault, with --strict also where there is a warning, and after `aeron_policyd: FAULT` on standard
 error: no clock; a file that can't be read, or is larger than 16 MiB; a fault of the names; write failed; no memory. 2 for a usage
-error.";
+error.",
+};
 
-/// What `table` says.
-const TABLE: &str = "\
+/// `test`.
+pub(crate) const TEST: Form = Form {
+    name: "test",
+    about: "Runs test cases against a policy",
+    places: &[POLICY, CASES],
+    options: &[AT, JSON, NAMES],
+    after: "\
+Example: four questions with the answers that are wanted, one of which the policy does not give.
+
+  $ cat wanted.cases
+  # PRINCIPAL ACT CHANNEL STREAM allow|deny [by RULE | by default]
+  p1 subscribe aeron:ipc 9 allow
+  p1 subscribe aeron:ipc 10 deny by 1
+  p2 subscribe aeron:ipc 9 deny by default
+  p2 subscribe aeron:ipc 10 deny by default
+  $ aeron_policyd test policy.toml wanted.cases
+  line 5: p2 subscribe aeron:ipc 10 deny by default: denied by rule 1 in policy 1
+  3 passed, 1 failed
+
+A case is a question, the word that is wanted, and perhaps by what: the number of a rule, its name in quotes, or the default.
+Words have spaces between them, one or more. Principals and acts may be several, with commas between them, and streams a range,
+as 10..20; `*` is each act, or each stream. Then all of it has to be decided so. Empty lines, and those that begin with `#`, say
+nothing. With --at all are asked at that moment:
+
+  $ aeron_policyd test --names desk.names --at 2026-12-01T08:00:00Z operating/hours.toml operating/hours.cases
+  3 passed, 0 failed
+  $ aeron_policyd test --names desk.names --at 2026-12-01T18:00:00Z operating/hours.toml operating/after_hours.cases
+  3 passed, 0 failed
+
+Status: 0 where each case passes; 1 where one fails, and after `aeron_policyd: FAULT` on standard error: those of `check`, the
+first line that is no case, as `wanted.cases:5:4: unknown act`, or that there is no case; 2 for a usage error.",
+};
+
+/// `table`.
+pub(crate) const TABLE: Form = Form {
+    name: "table",
+    about: "Says who may do what under a policy",
+    places: &[POLICY],
+    options: &[OF_PRINCIPAL, AT, JSON, NAMES],
+    after: "\
 Example: what may p1 do?
 
   $ aeron_policyd table policy.toml --principal p1
@@ -219,10 +378,16 @@ others. Rules that do not hold at the moment of --at, which is 0 if none is give
 Rows are printed as they are made. More than a million are refused before the first.
 
 Status: 0; 1 after `aeron_policyd: FAULT` on standard error: those of `check`, unknown principal, or too many rows; 2 for a usage
-error.";
+error.",
+};
 
-/// What `diff` says.
-const DIFF: &str = "\
+/// `diff`.
+pub(crate) const DIFF: Form = Form {
+    name: "diff",
+    about: "Shows which decisions differ between two policies",
+    places: &[POLICY, NEW],
+    options: &[AT, JSON, NAMES],
+    after: "\
 Example: which decisions differ between policy.toml and open.toml?
 
   $ aeron_policyd diff policy.toml open.toml
@@ -241,13 +406,16 @@ policies are looked at at the moment of --at, which is 0 if none is given: at ot
 
 Status: 0 where nothing would be decided otherwise; 1 where something would, and after `aeron_policyd: FAULT` on standard
 error: those of `check`, for the old policy and then for the new one; 2 for a usage error; 4 where
-there are rows, and each only may differ.";
+there are rows, and each only may differ.",
+};
 
 /// What is asked of a policy.
 #[derive(Clone, Copy)]
 pub enum Asked<'a> {
-    /// How many rules it has.
-    Check,
+    /// How many rules it has; whether its first fault is named by its place, too.
+    Check {
+        places: bool,
+    },
     /// Its rules.
     Show,
     /// What it decides of a question.
@@ -293,206 +461,6 @@ pub struct Asking<'a> {
     /// Whether the answer is JSON.
     pub json: bool,
     pub asked: Asked<'a>,
-}
-
-/// The argument that names a policy's file.
-fn policy_file<'a>(alloc: Global) -> Arg<'a> {
-    Arg::new(alloc, "POLICY")
-        .required(true)
-        .help("The policy's file, of at most 16,777,216 bytes")
-}
-
-/// The option that names the file of names.
-fn names_file<'a>(alloc: Global) -> Arg<'a> {
-    Arg::new(alloc, "names")
-        .long("names")
-        .value_name("FILE")
-        .help("Names of principals, lines `principal NAME NUMBER`, instead of p1 to p63")
-}
-
-/// The option that names the moment at which a policy is asked.
-fn at<'a>(alloc: Global) -> Arg<'a> {
-    Arg::new(alloc, "at").long("at").value_name("MOMENT").help(
-        "When it is asked: nanoseconds since 1970, or a date as 2026-12-01T08:00:00Z; 0 if not given",
-    )
-}
-
-/// The option that names the moment at which a policy is looked at.
-fn looked_at<'a>(alloc: Global) -> Arg<'a> {
-    Arg::new(alloc, "at").long("at").value_name("MOMENT").help(
-        "When it is looked at: nanoseconds since 1970, or a date as 2026-12-01T08:00:00Z; now if not given",
-    )
-}
-
-/// The option that names how soon a rule has to end, so that it is warned of.
-fn soon<'a>(alloc: Global) -> Arg<'a> {
-    Arg::new(alloc, "soon")
-        .long("soon")
-        .value_name("PERIOD")
-        .help(
-            "Warns of rules that end within this: a number and d, h, m or s, as 7d, or nanoseconds",
-        )
-}
-
-/// The option that wants JSON.
-fn json<'a>(alloc: Global) -> Arg<'a> {
-    Arg::new(alloc, "json")
-        .long("json")
-        .action(ArgAction::SetTrue)
-        .help("Prints the answer as JSON, on one line")
-}
-
-/// The option that names how many rules are explained at most.
-fn near<'a>(alloc: Global) -> Arg<'a> {
-    Arg::new(alloc, "near")
-        .long("near")
-        .value_name("N")
-        .value_parser(value_parser!(u64).range(0..=1024))
-        .help("Names only the N rules that come nearest to a match, nearest first")
-}
-
-fn check<'a>(alloc: Global) -> Result<Command<'a>, AllocError> {
-    Command::new(alloc, "check")
-        .about("Validates a policy: says how many rules it has, or its first fault")
-        .after_help(CHECK)
-        .arg(policy_file(alloc))?
-        .arg(json(alloc))?
-        .arg(names_file(alloc))
-}
-
-fn principal<'a>(alloc: Global) -> Arg<'a> {
-    Arg::new(alloc, "PRINCIPAL").required(true).help(
-        "Who asks: nobody, p1 to p63, or a name that --names gives",
-    )
-}
-
-fn act<'a>(alloc: Global) -> Arg<'a> {
-    Arg::new(alloc, "ACT")
-        .required(true)
-        .help("What is asked, one of the acts below")
-}
-
-fn channel<'a>(alloc: Global) -> Arg<'a> {
-    Arg::new(alloc, "CHANNEL").required(true).help(
-        "On which channel, such as aeron:ipc; aeron:counter where a counter is meant",
-    )
-}
-
-fn stream<'a>(alloc: Global) -> Arg<'a> {
-    Arg::new(alloc, "STREAM")
-        .required(true)
-        .value_parser(value_parser!(i32).range(0..))
-        .help("On which stream, 0 to 2147483647; for a counter its type id")
-}
-
-/// The arguments of a question about a policy.
-fn with_question<'a>(alloc: Global, command: Command<'a>) -> Result<Command<'a>, AllocError> {
-    command
-        .arg(policy_file(alloc))?
-        .arg(principal(alloc))?
-        .arg(act(alloc))?
-        .arg(channel(alloc))?
-        .arg(stream(alloc))?
-        .arg(at(alloc))?
-        .arg(json(alloc))?
-        .arg(names_file(alloc))
-}
-
-fn decide<'a>(alloc: Global) -> Result<Command<'a>, AllocError> {
-    let command = Command::new(alloc, "decide")
-        .about("Says what a policy decides of a request, and by which rule")
-        .after_help(DECIDE);
-    with_question(alloc, command)
-}
-
-fn show<'a>(alloc: Global) -> Result<Command<'a>, AllocError> {
-    Command::new(alloc, "show")
-        .about("Lists the rules of a policy with their numbers")
-        .after_help(SHOW)
-        .arg(policy_file(alloc))?
-        .arg(json(alloc))?
-        .arg(names_file(alloc))
-}
-
-fn explain<'a>(alloc: Global) -> Result<Command<'a>, AllocError> {
-    let command = Command::new(alloc, "explain")
-        .about("Says what a policy decides of a request, and why")
-        .after_help(EXPLAIN);
-    with_question(alloc, command)?.arg(near(alloc))
-}
-
-fn test<'a>(alloc: Global) -> Result<Command<'a>, AllocError> {
-    let cases = Arg::new(alloc, "CASES")
-        .required(true)
-        .help("The file of the cases, of at most 16,777,216 bytes");
-    Command::new(alloc, "test")
-        .about("Runs test cases against a policy")
-        .after_help(TEST)
-        .arg(policy_file(alloc))?
-        .arg(cases)?
-        .arg(at(alloc))?
-        .arg(json(alloc))?
-        .arg(names_file(alloc))
-}
-
-fn lint<'a>(alloc: Global) -> Result<Command<'a>, AllocError> {
-    let strict = Arg::new(alloc, "strict")
-        .long("strict")
-        .action(ArgAction::SetTrue)
-        .help("Ends with status 1 where there is a warning, too");
-    Command::new(alloc, "lint")
-        .about("Reports errors and suspicious rules")
-        .after_help(LINT)
-        .arg(policy_file(alloc))?
-        .arg(strict)?
-        .arg(looked_at(alloc))?
-        .arg(soon(alloc))?
-        .arg(json(alloc))?
-        .arg(names_file(alloc))
-}
-
-fn table<'a>(alloc: Global) -> Result<Command<'a>, AllocError> {
-    let principal = Arg::new(alloc, "principal")
-        .long("principal")
-        .value_name("PRINCIPAL")
-        .help("Shows the rows of this principal alone");
-    Command::new(alloc, "table")
-        .about("Says who may do what under a policy")
-        .after_help(TABLE)
-        .arg(policy_file(alloc))?
-        .arg(principal)?
-        .arg(at(alloc))?
-        .arg(json(alloc))?
-        .arg(names_file(alloc))
-}
-
-fn diff<'a>(alloc: Global) -> Result<Command<'a>, AllocError> {
-    let new = Arg::new(alloc, "NEW").required(true).help(
-        "The file of the policy that would take its place, of at most 16,777,216 bytes",
-    );
-    Command::new(alloc, "diff")
-        .about("Shows which decisions differ between two policies")
-        .after_help(DIFF)
-        .arg(policy_file(alloc))?
-        .arg(new)?
-        .arg(at(alloc))?
-        .arg(json(alloc))?
-        .arg(names_file(alloc))
-}
-
-/// Adds the words that ask what a policy says.
-pub(crate) fn with_policies<'a>(
-    alloc: Global,
-    command: Command<'a>,
-) -> Result<Command<'a>, AllocError> {
-    let command = with(command, check(alloc))?;
-    let command = with(command, decide(alloc))?;
-    let command = with(command, show(alloc))?;
-    let command = with(command, explain(alloc))?;
-    let command = with(command, lint(alloc))?;
-    let command = with(command, test(alloc))?;
-    let command = with(command, table(alloc))?;
-    with(command, diff(alloc))
 }
 
 fn question_in<'m, 'a>(of: &'m ArgMatches<'a>) -> Option<Question<'m>>
@@ -547,7 +515,9 @@ fn asked_in<'m, 'a>(word: Word, of: &'m ArgMatches<'a>) -> Option<Asked<'m>>
     ensures answers { HasAll (found_of of.now) (word_needs word) → is_some result ≡ true }
 {
     Some(match word {
-        Word::Check => Asked::Check,
+        Word::Check => Asked::Check {
+            places: of.get_flag("places"),
+        },
         Word::Decide => Asked::Decide(question_in(of)?),
         Word::Show => Asked::Show,
         Word::Explain => Asked::Explain {

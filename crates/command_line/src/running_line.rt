@@ -7,16 +7,267 @@ ghost use Rattle.command_line.specs.Tasks.{AreFound, joined_numbers, joined_text
 ghost use Rattle.std.specs.Prelude.{◌≡◌, [], IfSome, codes, is_some, true};
 
 use crate::numbers::{number_in, signed_in};
+use crate::policy_words::NAMES;
+use crate::rows::{AGAIN, FLAG, Form, NATURAL, OPTION, PLACED, Row, SECONDS, UP_TO_BILLION};
 use crate::serving_line::{self, Doors, Order};
-use clap::{Arg, ArgAction, ArgMatches, Command, value_parser};
-use piped_messages::{Cut, Form};
-use std::alloc::{AllocError, Global};
+use clap::ArgMatches;
+use clap::builder::ValueParser;
+use piped_messages::{Cut, Form as Printed};
 
-/// What `run` says.
-const RUN: &str = "\
+/// The policy's file.
+pub(crate) const POLICY: Row = Row {
+    id: "policy",
+    value: &["POLICY"],
+    required: true,
+    help: "The policy's file, of at most 16,777,216 bytes",
+    ..OPTION
+};
+
+/// The same, where a driver of another process may be named in its place.
+const OWN_POLICY: Row = Row {
+    required: false,
+    unless: &["driver"],
+    help: "The policy's file, of at most 16,777,216 bytes, for a driver of this process",
+    ..POLICY
+};
+
+/// The socket of a driver that serves, in place of a policy and of all that a driver of this process is told.
+const DRIVER: Row = Row {
+    id: "driver",
+    value: &["SOCKET"],
+    apart: &[
+        "policy",
+        "names",
+        "as",
+        "setting",
+        "peer",
+        "strangers",
+        "asks",
+        "reload-every",
+        "stats",
+        "fail-on-gap",
+    ],
+    help: "The socket of a driver that serves, instead of a driver of this process",
+    ..OPTION
+};
+
+/// For whom the client acts.
+const AS: Row = Row {
+    id: "as",
+    value: &["PRINCIPAL"],
+    default: &["p1"],
+    help: "For whom the client acts: nobody, p1 to p63, or a name that --names gives",
+    ..OPTION
+};
+
+/// How long `run` waits.
+const TURNS: Row = Row {
+    id: "turns",
+    value: &["N"],
+    takes: ValueParser::Unsigned(0, u64::MAX),
+    required: true,
+    help: "After how many attempts each wait stops",
+    ..OPTION
+};
+
+/// Whether `run` prints what was decided.
+const AUDIT: Row = Row {
+    id: "audit",
+    help: "Prints what was decided",
+    ..FLAG
+};
+
+/// A setting of the driver.
+pub(crate) const SETTING: Row = Row {
+    id: "setting",
+    value: &["KEY=VALUE"],
+    help: "A setting of the driver, as mtu=8k or linger=2s; may be given again for other keys",
+    ..AGAIN
+};
+
+/// Who sends from an address.
+pub(crate) const PEER: Row = Row {
+    id: "peer",
+    value: &["ADDR=PRINCIPAL"],
+    help: "Who sends from this address is this principal; may be given again for other addresses",
+    ..AGAIN
+};
+
+/// What becomes of datagrams from other addresses.
+pub(crate) const STRANGERS: Row = Row {
+    id: "strangers",
+    value: &["WORD"],
+    help: "`drop` drops what comes from an address that no --peer names; `allow` is the default",
+    ..OPTION
+};
+
+/// How much one address may ask for.
+pub(crate) const ASKS: Row = Row {
+    id: "asks",
+    value: &["N"],
+    takes: ValueParser::Unsigned(1, 1_000_000_000),
+    needs: &["strangers"],
+    help: "How many NAKs and status messages one address may send in 60 ms [default: 2048]",
+    ..OPTION
+};
+
+/// How often the policy's file is read again.
+pub(crate) const RELOAD_EVERY: Row = Row {
+    id: "reload-every",
+    value: &["SECONDS"],
+    takes: SECONDS,
+    help: "Reads the policy's file again every SECONDS, and applies it if it changed",
+    ..OPTION
+};
+
+/// Whether figures are printed.
+const STATS: Row = Row {
+    id: "stats",
+    help: "Prints figures every second, on standard error",
+    ..FLAG
+};
+
+/// Whether it ends at the first gap.
+const FAIL_ON_GAP: Row = Row {
+    id: "fail-on-gap",
+    help: "Ends at the first gap in a stream, in place of going on after it",
+    ..FLAG
+};
+
+const CHANNEL: Row = Row {
+    id: "CHANNEL",
+    help: "The channel, such as aeron:udp?endpoint=127.0.0.1:40123",
+    ..PLACED
+};
+
+const STREAM: Row = Row {
+    id: "STREAM",
+    takes: NATURAL,
+    help: "The stream, 0 to 2147483647",
+    ..PLACED
+};
+
+/// How `publish` cuts its input.
+const BYTES: Row = Row {
+    id: "bytes",
+    value: &["N"],
+    takes: ValueParser::Unsigned(1, 16_777_216),
+    help: "Each N bytes are a message, instead of each line",
+    ..OPTION
+};
+
+/// How long a message of `publish` may wait.
+const WAIT: Row = Row {
+    id: "wait",
+    value: &["SECONDS"],
+    takes: UP_TO_BILLION,
+    default: &["10"],
+    help: "How long a message may wait for a missing or slow subscriber",
+    ..OPTION
+};
+
+/// How long the last messages may wait to be consumed.
+const LINGER: Row = Row {
+    id: "linger",
+    value: &["SECONDS"],
+    takes: UP_TO_BILLION,
+    default: &["5"],
+    apart: &["driver"],
+    help: "How long the last messages may wait until each subscriber has taken them",
+    ..OPTION
+};
+
+/// A destination of a publication whose mode is manual.
+const TO: Row = Row {
+    id: "to",
+    value: &["ADDR"],
+    apart: &["driver"],
+    help: "Sends to this address too, with control-mode=manual; may be given again for others",
+    ..AGAIN
+};
+
+/// The address of a publisher that is joined.
+const CONTROL: Row = Row {
+    id: "control",
+    value: &["ADDR"],
+    needs: &["session"],
+    help: "Joins a publisher with control-mode=dynamic, whose control address this is",
+    ..OPTION
+};
+
+/// The session of a publisher that is joined.
+const SESSION: Row = Row {
+    id: "session",
+    value: &["N"],
+    takes: ValueParser::Signed(-2_147_483_648, 2_147_483_647),
+    needs: &["control"],
+    help: "The session of that publisher, which it prints",
+    ..OPTION
+};
+
+/// After how many messages `subscribe` ends.
+const COUNT: Row = Row {
+    id: "count",
+    value: &["N"],
+    takes: ValueParser::Unsigned(1, u64::MAX),
+    help: "Ends after N messages",
+    ..OPTION
+};
+
+/// Whether messages are printed without a line feed.
+const RAW: Row = Row {
+    id: "raw",
+    help: "Prints messages as they are, with no line feed after each",
+    ..FLAG
+};
+
+/// Whether the length of a message is printed before it.
+const LENGTH_PREFIX: Row = Row {
+    id: "length-prefix",
+    needs: &["raw"],
+    help: "With --raw: before each message how many bytes it has, in four bytes, the least significant first",
+    ..FLAG
+};
+
+/// After how many seconds `subscribe` ends.
+const UNTIL: Row = Row {
+    id: "until",
+    value: &["SECONDS"],
+    takes: UP_TO_BILLION,
+    apart: &["driver"],
+    help: "Ends after so many seconds",
+    ..OPTION
+};
+
+/// Whether it ends once no publisher is there.
+const UNTIL_GONE: Row = Row {
+    id: "until-gone",
+    help: "Exits when all publishers seen so far are gone",
+    ..FLAG
+};
+
+/// How long standard output may take nothing.
+const OUTPUT_WAIT: Row = Row {
+    apart: &["driver"],
+    help: "Says so when standard output took nothing for so long",
+    ..WAIT
+};
+
+/// `run`.
+pub(crate) const RUN: Form = Form {
+    name: "run",
+    about: "Starts a driver with one client, which sends itself a message",
+    places: &[],
+    options: &[POLICY, NAMES, AS, TURNS, AUDIT],
+    after: "\
 Example: p1 may do all that it asks for, so it receives the five bytes that it sends.
 
   $ aeron_policyd run --policy open.toml --turns 1000000
+  subscription ready
+  publication ready
+  received 68656c6c6f
+  stopped
+  $ aeron_policyd run --policy open.toml --turns 1000000 --audit
   subscription ready
   publication ready
   received 68656c6c6f
@@ -29,15 +280,37 @@ Example: p1 may do all that it asks for, so it receives the five bytes that it s
 
 A driver starts, on threads of its own and with UDP sockets, and one client of p1, or of the principal of --as, attaches to it.
 The client subscribes to `aeron:ipc`, stream 1001, publishes there, offers `hello` and polls. Where its subscription or its
-publication is refused, the refusal stands instead of `ready`. Each wait stops after N attempts. Once both commands are answered,
-what was decided last is printed, by the audits of the conductor, the sender and the client: 4,096 decisions of each at most,
-and those that are the same in a row once.
+publication is refused, the refusal stands instead of `ready`. Each wait stops after N attempts. With --audit what was decided last
+is printed before `stopped`, by the audits of the conductor, the sender and the client: 4,096 decisions of each at most, and those
+that are the same in a row once.
 
 Status: 0, even if requests are denied or waits time out; 1 after `aeron_policyd: FAULT` on standard error: those of
-`aeron_policyd check`; --as names no principal; no thread could be started. 2 for a usage error.";
+`aeron_policyd check`; --as names no principal; no thread could be started. 2 for a usage error.",
+};
 
-/// What `publish` says.
-const PUBLISH: &str = "\
+/// `publish`.
+pub(crate) const PUBLISH: Form = Form {
+    name: "publish",
+    about: "Sends standard input to subscribers, each line as a message",
+    places: &[CHANNEL, STREAM],
+    options: &[
+        OWN_POLICY,
+        DRIVER,
+        NAMES,
+        AS,
+        SETTING,
+        PEER,
+        STRANGERS,
+        ASKS,
+        RELOAD_EVERY,
+        STATS,
+        FAIL_ON_GAP,
+        BYTES,
+        WAIT,
+        LINGER,
+        TO,
+    ],
+    after: "\
 Example: what goes through shared memory reaches no other process.
 
   $ aeron_policyd publish --policy open.toml aeron:ipc 10
@@ -86,6 +359,15 @@ binds to the subscriber's endpoint; an address that nobody is bound to is nobody
 about join and send of that principal, and about send of no other. Sessions begin at a number that is drawn at each start, if
 no setting `first-session` is given.
 
+With --strangers drop the driver drops what comes from an address that no --peer names, as it reads it: that is as if it was lost.
+A --peer is needed then for each subscriber's endpoint. --peer 10.0.0.7=nobody, without a port, lets in what comes from any port
+of that host, and binds none: to the policy it is nobody's, if no --peer with the port says otherwise. What an honest peer never
+sends is dropped, too: a NAK for more than half a term or 131,072 bytes, which is the greatest window, and more than --asks NAKs and status messages of
+one address, or of one host without a port, in 60 milliseconds. At the end, and with --stats, a line says what was dropped, by
+its kind, where anything was; the last two numbers are of peers:
+
+  dropped setups 0 data 0 status 4655 naks 0 others 0 too-much 0 too-often 0
+
 With `control-mode=manual` the datagrams go to each --to, and the policy is asked about the act destination, on the channel of
 that address, such as `aeron:udp?endpoint=10.1.0.5:40123`.
 
@@ -93,8 +375,8 @@ With --driver no driver starts: the messages go to one that serves (`serve --hel
 
   aeron_policyd publish --driver /run/aeron_policyd/p1.sock aeron:ipc 10
 
-It ends once that driver took them all. The last line is `sent 2 messages 10 bytes position 128 refusals 0` then, and of the
-other options --bytes and --wait alone are looked at.
+It ends once that driver took them all. The last line is `sent 2 messages 10 bytes position 128 refusals 0` then. Of the other
+options --bytes and --wait alone may be given with it: the others are for a driver of this process.
 
 Settings, each as --setting KEY=VALUE. Durations are in ns, us, ms or s, and in nanoseconds without a unit; sizes are in bytes, or
 in k, m or g of 1,024, 1,024^2 and 1,024^3 bytes. In an address `localhost` is 127.0.0.1.
@@ -122,10 +404,37 @@ in k, m or g of 1,024, 1,024^2 and 1,024^3 bytes. In an address `localhost` is 1
 Status: 0; 1 after `aeron_policyd: FAULT` on standard error; 2 for a usage error; 3 after a gap, with `messages were
 lost`. Faults are those of `run`, and: not taken; no driver serves there; what is wrong with a --setting, a --peer or a --to; aeron:ipc reaches no other process; cannot open ADDR; the refusal of the
 publication or of an offer, such as `denied by rule 3 in policy 1`; no subscriber, or back pressure, after --wait seconds; message
-too long; greatest position reached; queue full; no client could attach; client gone.";
+too long; greatest position reached; queue full; no client could attach; client gone; why a word is no channel; with --driver also
+permission denied, and that the driver stopped, ended or does not answer.",
+};
 
-/// What `subscribe` says.
-const SUBSCRIBE: &str = "\
+/// `subscribe`.
+pub(crate) const SUBSCRIBE: Form = Form {
+    name: "subscribe",
+    about: "Prints the messages of publishers, each on a line",
+    places: &[CHANNEL, STREAM],
+    options: &[
+        OWN_POLICY,
+        DRIVER,
+        NAMES,
+        AS,
+        SETTING,
+        PEER,
+        STRANGERS,
+        ASKS,
+        RELOAD_EVERY,
+        STATS,
+        FAIL_ON_GAP,
+        CONTROL,
+        SESSION,
+        COUNT,
+        RAW,
+        LENGTH_PREFIX,
+        UNTIL,
+        UNTIL_GONE,
+        OUTPUT_WAIT,
+    ],
+    after: "\
 Example: a spy reads what the driver of its own process publishes, and nothing else.
 
   $ aeron_policyd subscribe --policy open.toml 'aeron-spy:aeron:udp?endpoint=127.0.0.1:40123' 10
@@ -167,14 +476,18 @@ read.
 
   aeron_policyd subscribe --driver /run/aeron_policyd/p2.sock --count 2 aeron:ipc 10
 
-The last line is `received 2 messages 10 bytes position 128` then, and of the other options --count, --raw and --until-gone
-alone are looked at.
+The last line is `received 2 messages 10 bytes position 128` then. Of the other options --count, --raw, --length-prefix and
+--until-gone alone may be given with it: the others are for a driver of this process.
+
+With --strangers drop the address from which each publisher sends has to be named by --peer, such as --peer 127.0.0.1:40000=p1;
+what comes from any other is dropped, as `publish --help` says.
 
 The settings are those of `publish --help`.
 
 Status: 0; 1 after `aeron_policyd: FAULT` on standard error; 2 for a usage error; 3 after a gap, with `messages were
 lost`. Faults are those of `publish`, and: a spy reads its own driver alone; --control is no address; no endpoint to join from; the denial of a poll; --control needs a driver of this
-process.";
+process.",
+};
 
 /// What `publish` and `subscribe` have in common.
 #[derive(Clone, Copy)]
@@ -191,6 +504,10 @@ pub struct Talk<'a> {
     pub settings: &'a [&'a str],
     /// Words `ADDR=PRINCIPAL`.
     pub peers: &'a [&'a str],
+    /// What becomes of datagrams from other addresses, if it is said.
+    pub strangers: Option<&'a str>,
+    /// How many NAKs and status messages one address may send in the time, if a number is given.
+    pub asks: Option<u64>,
     pub channel: &'a str,
     pub stream: i32,
     /// After how many seconds the policy's file is read again, if it is.
@@ -218,7 +535,7 @@ pub struct Reading {
     pub until: Option<u64>,
     /// When no publisher is there any more that was heard.
     pub until_gone: bool,
-    pub form: Form,
+    pub form: Printed,
     /// After how many seconds in which standard output takes nothing that is said.
     pub wait: u64,
 }
@@ -234,6 +551,8 @@ pub enum Start<'a> {
         /// For whom the client acts.
         principal: &'a str,
         tries: u64,
+        /// Whether what was decided is printed.
+        audit: bool,
     },
     /// To send standard input as messages.
     Publish {
@@ -269,279 +588,25 @@ pub enum Start<'a> {
     },
 }
 
-/// The option that names a policy's file.
-pub(crate) fn policy_option<'a>(alloc: Global) -> Arg<'a> {
-    Arg::new(alloc, "policy")
-        .long("policy")
-        .value_name("POLICY")
-        .required(true)
-        .help("The policy's file, of at most 16,777,216 bytes")
-}
-
-/// The same, where a driver of another process may be named in its place.
-fn own_policy<'a>(alloc: Global) -> Result<Arg<'a>, AllocError> {
-    Arg::new(alloc, "policy")
-        .long("policy")
-        .value_name("POLICY")
-        .help("The policy's file, of at most 16,777,216 bytes, for a driver of this process")
-        .required_unless_present("driver")
-}
-
-fn driver<'a>(alloc: Global) -> Arg<'a> {
-    Arg::new(alloc, "driver")
-        .long("driver")
-        .value_name("SOCKET")
-        .help("The socket of a driver that serves, instead of a driver of this process")
-}
-
-/// The option that names the file of names.
-pub(crate) fn names_option<'a>(alloc: Global) -> Arg<'a> {
-    Arg::new(alloc, "names")
-        .long("names")
-        .value_name("FILE")
-        .help("Names of principals, lines `principal NAME NUMBER`, instead of p1 to p63")
-}
-
-fn turns<'a>(alloc: Global) -> Arg<'a> {
-    Arg::new(alloc, "turns")
-        .long("turns")
-        .value_name("N")
-        .required(true)
-        .value_parser(value_parser!(u64))
-        .help("After how many attempts each wait stops")
-}
-
-/// The words of `run`.
-pub(crate) fn run<'a>(alloc: Global) -> Result<Command<'a>, AllocError> {
-    Command::new(alloc, "run")
-        .about("Starts a driver with one client, which sends itself a message")
-        .after_help(RUN)
-        .arg(policy_option(alloc))?
-        .arg(names_option(alloc))?
-        .arg(principal(alloc))?
-        .arg(turns(alloc))
-}
-
-fn principal<'a>(alloc: Global) -> Arg<'a> {
-    Arg::new(alloc, "as")
-        .long("as")
-        .value_name("PRINCIPAL")
-        .default_value("p1")
-        .help("For whom the client acts: nobody, p1 to p63, or a name that --names gives")
-}
-
-pub(crate) fn setting<'a>(alloc: Global) -> Arg<'a> {
-    Arg::new(alloc, "setting")
-        .long("setting")
-        .value_name("KEY=VALUE")
-        .action(ArgAction::Append)
-        .help("A setting of the driver, as mtu=8k or linger=2s; may be given again for other keys")
-}
-
-pub(crate) fn peer<'a>(alloc: Global) -> Arg<'a> {
-    Arg::new(alloc, "peer")
-        .long("peer")
-        .value_name("ADDR=PRINCIPAL")
-        .action(ArgAction::Append)
-        .help(
-            "Who sends from this address is this principal; may be given again for other addresses",
-        )
-}
-
-pub(crate) fn reload_every<'a>(alloc: Global) -> Arg<'a> {
-    Arg::new(alloc, "reload-every")
-        .long("reload-every")
-        .value_name("SECONDS")
-        .value_parser(value_parser!(u64).range(1..=1_000_000_000))
-        .help("Reads the policy's file again every SECONDS, and applies it if it changed")
-}
-
-fn stats<'a>(alloc: Global) -> Arg<'a> {
-    Arg::new(alloc, "stats")
-        .long("stats")
-        .action(ArgAction::SetTrue)
-        .help("Prints figures every second, on standard error")
-}
-
-fn fail_on_gap<'a>(alloc: Global) -> Arg<'a> {
-    Arg::new(alloc, "fail-on-gap")
-        .long("fail-on-gap")
-        .action(ArgAction::SetTrue)
-        .help("Ends at the first gap in a stream, in place of going on after it")
-}
-
-fn channel<'a>(alloc: Global) -> Arg<'a> {
-    Arg::new(alloc, "CHANNEL")
-        .required(true)
-        .help("The channel, such as aeron:udp?endpoint=127.0.0.1:40123")
-}
-
-fn stream<'a>(alloc: Global) -> Arg<'a> {
-    Arg::new(alloc, "STREAM")
-        .required(true)
-        .value_parser(value_parser!(i32).range(0..))
-        .help("The stream, 0 to 2147483647")
-}
-
-/// The words that `publish` and `subscribe` have in common.
-fn with_talk<'a>(alloc: Global, command: Command<'a>) -> Result<Command<'a>, AllocError> {
-    command
-        .arg(own_policy(alloc)?)?
-        .arg(driver(alloc))?
-        .arg(names_option(alloc))?
-        .arg(principal(alloc))?
-        .arg(setting(alloc))?
-        .arg(peer(alloc))?
-        .arg(reload_every(alloc))?
-        .arg(stats(alloc))?
-        .arg(fail_on_gap(alloc))?
-        .arg(channel(alloc))?
-        .arg(stream(alloc))
-}
-
-fn bytes<'a>(alloc: Global) -> Arg<'a> {
-    Arg::new(alloc, "bytes")
-        .long("bytes")
-        .value_name("N")
-        .value_parser(value_parser!(u64).range(1..=16_777_216))
-        .help("Each N bytes are a message, instead of each line")
-}
-
-fn wait<'a>(alloc: Global) -> Arg<'a> {
-    Arg::new(alloc, "wait")
-        .long("wait")
-        .value_name("SECONDS")
-        .default_value("10")
-        .value_parser(value_parser!(u64).range(0..=1_000_000_000))
-        .help("How long a message may wait for a missing or slow subscriber")
-}
-
-fn linger<'a>(alloc: Global) -> Arg<'a> {
-    Arg::new(alloc, "linger")
-        .long("linger")
-        .value_name("SECONDS")
-        .default_value("5")
-        .value_parser(value_parser!(u64).range(0..=1_000_000_000))
-        .help("How long the last messages may wait until each subscriber has taken them")
-}
-
-fn to<'a>(alloc: Global) -> Arg<'a> {
-    Arg::new(alloc, "to")
-        .long("to")
-        .value_name("ADDR")
-        .action(ArgAction::Append)
-        .help("Sends to this address too, with control-mode=manual; may be given again for others")
-}
-
-/// The words of `publish`.
-pub(crate) fn publish<'a>(alloc: Global) -> Result<Command<'a>, AllocError> {
-    let command = Command::new(alloc, "publish")
-        .about("Sends standard input to subscribers, each line as a message")
-        .after_help(PUBLISH);
-    with_talk(alloc, command)?
-        .arg(bytes(alloc))?
-        .arg(wait(alloc))?
-        .arg(linger(alloc))?
-        .arg(to(alloc))
-}
-
-fn control<'a>(alloc: Global) -> Result<Arg<'a>, AllocError> {
-    Arg::new(alloc, "control")
-        .long("control")
-        .value_name("ADDR")
-        .help("Joins a publisher with control-mode=dynamic, whose control address this is")
-        .requires_arg("session")
-}
-
-fn session<'a>(alloc: Global) -> Result<Arg<'a>, AllocError> {
-    Arg::new(alloc, "session")
-        .long("session")
-        .value_name("N")
-        .value_parser(value_parser!(i32))
-        .allow_negative_numbers(true)
-        .help("The session of that publisher, which it prints")
-        .requires_arg("control")
-}
-
-fn count<'a>(alloc: Global) -> Arg<'a> {
-    Arg::new(alloc, "count")
-        .long("count")
-        .value_name("N")
-        .value_parser(value_parser!(u64).range(1..))
-        .help("Ends after N messages")
-}
-
-fn raw<'a>(alloc: Global) -> Arg<'a> {
-    Arg::new(alloc, "raw")
-        .long("raw")
-        .action(ArgAction::SetTrue)
-        .help("Prints messages as they are, with no line feed after each")
-}
-
-fn length_prefix<'a>(alloc: Global) -> Result<Arg<'a>, AllocError> {
-    Arg::new(alloc, "length-prefix")
-        .long("length-prefix")
-        .action(ArgAction::SetTrue)
-        .help(
-            "With --raw: before each message how many bytes it has, in four bytes, the least significant first",
-        )
-        .requires_arg("raw")
-}
-
-fn until<'a>(alloc: Global) -> Arg<'a> {
-    Arg::new(alloc, "until")
-        .long("until")
-        .value_name("SECONDS")
-        .value_parser(value_parser!(u64).range(0..=1_000_000_000))
-        .help("Ends after so many seconds")
-}
-
-fn output_wait<'a>(alloc: Global) -> Arg<'a> {
-    Arg::new(alloc, "wait")
-        .long("wait")
-        .value_name("SECONDS")
-        .default_value("10")
-        .value_parser(value_parser!(u64).range(0..=1_000_000_000))
-        .help("Says so when standard output took nothing for so long")
-}
-
-fn until_gone<'a>(alloc: Global) -> Arg<'a> {
-    Arg::new(alloc, "until-gone")
-        .long("until-gone")
-        .action(ArgAction::SetTrue)
-        .help("Exits when all publishers seen so far are gone")
-}
-
-/// The words of `subscribe`.
-pub(crate) fn subscribe<'a>(alloc: Global) -> Result<Command<'a>, AllocError> {
-    let command = Command::new(alloc, "subscribe")
-        .about("Prints the messages of publishers, each on a line")
-        .after_help(SUBSCRIBE);
-    with_talk(alloc, command)?
-        .arg(control(alloc)?)?
-        .arg(session(alloc)?)?
-        .arg(count(alloc))?
-        .arg(raw(alloc))?
-        .arg(length_prefix(alloc)?)?
-        .arg(until(alloc))?
-        .arg(until_gone(alloc))?
-        .arg(output_wait(alloc))
-}
-
 /// What `publish` and `subscribe` have in common.
 fn talk_in<'m, 'a>(of: &'m ArgMatches<'a>) -> Option<Talk<'m>>
     ensures given { IfSome result (λ talk. AreFound (found_of of.now) (talk_texts talk) (stream_alone talk.stream)) }
     ensures answers { HasAll (found_of of.now) (talk_needs [] []) → is_some result ≡ true }
 {
+    let principal = of.get_str("as")?;
+    let channel = of.get_str("CHANNEL")?;
+    let stream = signed_in(of, "STREAM")?;
     Some(Talk {
         policy: of.get_str("policy"),
         driver: of.get_str("driver"),
         names: of.get_str("names"),
-        principal: of.get_str("as")?,
+        principal,
         settings: of.get_strs("setting").unwrap_or(&[]),
         peers: of.get_strs("peer").unwrap_or(&[]),
-        channel: of.get_str("CHANNEL")?,
-        stream: signed_in(of, "STREAM")?,
+        strangers: of.get_str("strangers"),
+        asks: number_in(of, "asks"),
+        channel,
+        stream,
         reload_every: number_in(of, "reload-every"),
         stats: of.get_flag("stats"),
         fail_on_gap: of.get_flag("fail-on-gap"),
@@ -587,13 +652,13 @@ fn join_in<'m, 'a>(of: &'m ArgMatches<'a>) -> Option<Option<Join<'m>>>
 }
 
 /// How `subscribe` prints messages.
-fn form_in(of: &ArgMatches<'_>) -> Form {
+fn form_in(of: &ArgMatches<'_>) -> Printed {
     if !of.get_flag("raw") {
-        Form::Lines
+        Printed::Lines
     } else if of.get_flag("length-prefix") {
-        Form::Prefixed
+        Printed::Prefixed
     } else {
-        Form::Raw
+        Printed::Raw
     }
 }
 
@@ -632,6 +697,7 @@ fn run_in<'m, 'a>(of: &'m ArgMatches<'a>) -> Option<Start<'m>>
         names: of.get_str("names"),
         principal: of.get_str("as")?,
         tries: number_in(of, "turns")?,
+        audit: of.get_flag("audit"),
     })
 }
 

@@ -6,17 +6,138 @@ ghost use Rattle.command_line.specs.Tasks.{AreFound, doors_texts, order_name, st
 ghost use Rattle.std.specs.Prelude.{◌≡◌, [], IfSome, codes, is_some, true};
 
 use crate::numbers::number_in;
-use crate::running_line::{Start, peer, policy_option, reload_every, setting};
-use crate::whole_line::with;
-use clap::{Arg, ArgAction, ArgMatches, Command, value_parser};
-use std::alloc::{AllocError, Global};
+use crate::policy_words;
+use crate::rows::{AGAIN, Form, OPTION, Row, SECONDS, UP_TO_BILLION};
+use crate::running_line::{ASKS, PEER, POLICY, RELOAD_EVERY, SETTING, STRANGERS, Start};
+use clap::ArgMatches;
+use clap::builder::ValueParser;
 
-/// What `serve` says.
-const SERVE: &str = "\
+/// The folder of the sockets.
+const FOLDER: Row = Row {
+    id: "folder",
+    value: &["FOLDER"],
+    required: true,
+    help: "The folder of the sockets, in which nobody else may write",
+    ..OPTION
+};
+
+/// A socket for a principal.
+const DOOR: Row = Row {
+    id: "door",
+    value: &["PRINCIPAL=OWNER"],
+    help: "A socket for a principal, and whose it is; may be given again for other principals",
+    ..AGAIN
+};
+
+/// The file of the principals' names.
+const NAMES: Row = Row {
+    value: &["NAMES"],
+    ..policy_words::NAMES
+};
+
+/// The mode of a socket that is named by its path.
+const MODE: Row = Row {
+    id: "mode",
+    value: &["MODE"],
+    default: &["660"],
+    help: "The mode of a socket that is named by its path, as chmod has it",
+    ..OPTION
+};
+
+/// A bound for each principal.
+const BOUND: Row = Row {
+    value: &["N"],
+    takes: UP_TO_BILLION,
+    ..OPTION
+};
+
+const EACH: Row = Row {
+    id: "each",
+    takes: ValueParser::Unsigned(1, 64),
+    help: "How many clients a principal may have at once [default: an equal part of 64]",
+    ..BOUND
+};
+
+const PUBLICATIONS: Row = Row {
+    id: "publications",
+    help: "How many publications the clients of a principal may have at once",
+    ..BOUND
+};
+
+const PAGES: Row = Row {
+    id: "pages",
+    help: "How many pages of 4,096 bytes the logs of these may take",
+    ..BOUND
+};
+
+const SUBSCRIPTIONS: Row = Row {
+    id: "subscriptions",
+    help: "How many subscriptions they may have at once",
+    ..BOUND
+};
+
+const COUNTERS: Row = Row {
+    id: "counters",
+    help: "How many counters they may have at once",
+    ..BOUND
+};
+
+/// How long a client that has something to read may not go on with it.
+const POLL_WITHIN: Row = Row {
+    id: "poll-within",
+    value: &["SECONDS"],
+    takes: UP_TO_BILLION,
+    default: &["10"],
+    help: "Lets a client go that has something to read and does not go on for so long; 0 for never",
+    ..OPTION
+};
+
+/// The socket of the driver that is spoken to.
+const DRIVER: Row = Row {
+    id: "driver",
+    value: &["SOCKET"],
+    required: true,
+    help: "The socket of a driver that serves",
+    ..OPTION
+};
+
+/// How often `stat` prints.
+const EVERY: Row = Row {
+    id: "every",
+    value: &["SECONDS"],
+    takes: SECONDS,
+    help: "Prints them again after so many seconds each time",
+    ..OPTION
+};
+
+/// `serve`.
+pub(crate) const SERVE: Form = Form {
+    name: "serve",
+    about: "Starts a driver whose clients are in other processes",
+    places: &[],
+    options: &[
+        POLICY,
+        FOLDER,
+        DOOR,
+        NAMES,
+        MODE,
+        SETTING,
+        PEER,
+        STRANGERS,
+        ASKS,
+        RELOAD_EVERY,
+        EACH,
+        PUBLICATIONS,
+        PAGES,
+        SUBSCRIPTIONS,
+        COUNTERS,
+        POLL_WITHIN,
+    ],
+    after: "\
 Example: nobody else may be able to write in the folder of the sockets.
 
   $ aeron_policyd serve --policy open.toml --folder /no/such/folder --door p1
-  aeron_policyd: no folder, or one where others may write
+  aeron_policyd: no folder /no/such
 
 Services of two users share a driver. Whoever the system lets open p1.sock acts for p1:
 
@@ -39,25 +160,44 @@ Each --door makes a Unix socket in the folder, named after the principal, and gi
 operator.sock is for the user who starts the driver: `stop`, `reload` and `clients` speak to it. Nobody else may be able to
 write in the folder. Where another driver answers at a socket, this one gives up.
 
-A principal has --each clients at most at once. Its clients have so many --publications, --subscriptions and --counters among
-them, and logs of so many --pages; where one of these is not given, each door has an equal part of what the driver has room
-for. So no owner takes the room of another. What is asked for beyond is refused by the name of the bound, as `bound on
-publications`. A publication counts until its log is gone, which is the setting `linger` after it was removed.
+The folder of each socket is root's or the driver's own user's, and nobody else may write there; in a folder above it others may,
+where it is sticky, as /tmp. No name has a / or begins with a dot, and no part of a path does.
 
-With --poll-within a client that has a stream to read and polls nothing for so many seconds is let go, so that it does not hold
-up those who publish.
+A principal has --each clients at most at once, an equal part of 64 if that is not given. Its clients have so many
+--publications, --subscriptions and --counters among them, and logs of so many --pages; where one of these is not given, each
+door has an equal part of what the driver has room for. What is asked for beyond is refused by the name of the bound, as
+`bound on publications`. A publication counts until its log is gone, which is the setting `linger` after it was removed. Of
+1,024 commands each door has an equal part that may be without an answer; one more is refused as `queue full`.
+
+A client that has something to read of a source and does not go on with it for --poll-within seconds is let go, so that it does
+not hold up those who publish: it goes on where it reads a quarter of what is there. With 0 nobody is let go for that.
 
 Services speak records over the socket; docs/SERVICE.md has them, with clients in Python and C. A client of which no record
 comes for the setting `client-liveness` is gone, and one whose process dies is gone at once.
 
-The settings are those of `publish --help`. With --names FILE the policy, the doors and the peers have the names of that file.
+What is denied is a line on standard error when it first comes, as `p2: publish on stream 10 denied by rule 3 \"desk alone\" in
+policy 1`, and ten seconds later another one says how often it came again. Sixteen denials of a principal are said in ten seconds,
+and then how many others there were. What is withheld, denied or of no use on the wire is said once each, as `publish` says it.
+
+With --strangers drop the driver drops what comes from an address that no --peer names, as `publish --help` says. How much it
+dropped is a line at its end.
+
+The settings are those of `publish --help`. With --names FILE the policy, the doors and the peers have the names of that file,
+which a reload reads again.
 
 Status: 0 after `stop`; 1 after `aeron_policyd: FAULT` on standard error; 2 for a usage error. Faults are those of `run`, and: no
-folder, or one where others may write; another driver serves there; cannot make a socket, or give it its owner; what is
-wrong with a --door or with --mode.";
+folder FOLDER; folder FOLDER belongs to user USER; others may write in FOLDER; another driver serves there; PRINCIPAL has two
+doors; PATH is there, and is no socket; cannot make a socket at PATH; cannot give PATH to its owner; what is wrong with a --door or
+with --mode.",
+};
 
-/// What `stat` says.
-const STAT: &str = "\
+/// `stat`.
+pub(crate) const STAT: Form = Form {
+    name: "stat",
+    about: "Prints the counters that a principal may see",
+    places: &[],
+    options: &[DRIVER, EVERY],
+    after: "\
 Example: no driver serves at that socket.
 
   $ aeron_policyd stat --driver /no/such/p2.sock
@@ -71,10 +211,16 @@ Where one does, it prints what p2 may see, such as a publication with one regist
 Of a publication (type 10001) the value is how many are registered with it, of an image (10002) how many subscriptions read it;
 any other counter is a client's own. What the policy does not let the socket's principal list is left out.
 
-Status: 0; 1 after `aeron_policyd: FAULT` on standard error, such as no driver serves there; 2 for a usage error.";
+Status: 0; 1 after `aeron_policyd: FAULT` on standard error, such as no driver serves there; 2 for a usage error.",
+};
 
-/// What `stop` says.
-const STOP: &str = "\
+/// `stop`.
+pub(crate) const STOP: Form = Form {
+    name: "stop",
+    about: "Tells a driver that serves to stop",
+    places: &[],
+    options: &[DRIVER],
+    after: "\
 Example: no driver serves at that socket.
 
   $ aeron_policyd stop --driver /no/such/operator.sock
@@ -82,22 +228,35 @@ Example: no driver serves at that socket.
 
 Where one does, all connections end, the sockets go, and the driver ends.
 
-Status: 0 once the driver took it; 1 after `aeron_policyd: FAULT` on standard error; 2 for a usage error.";
+Status: 0 once the driver took it; 1 after `aeron_policyd: FAULT` on standard error; 2 for a usage error.",
+};
 
-/// What `reload` says.
-const RELOAD: &str = "\
+/// `reload`.
+pub(crate) const RELOAD: Form = Form {
+    name: "reload",
+    about: "Has a driver that serves read its policy again",
+    places: &[],
+    options: &[DRIVER],
+    after: "\
 Example: no driver serves at that socket.
 
   $ aeron_policyd reload --driver /no/such/operator.sock
   aeron_policyd: no driver serves there
 
 Where one does, the policy's file is read again and put in force. It prints `policy 2 in force`, and then what
-`aeron_policyd diff` says of the policy before and of this one now. Where the file is at fault, the policy in force stays.
+`aeron_policyd diff` says of the policy before and of this one now. Where the file is at fault, the policy in force stays. It is
+read once it stood still for a second: write a new one beside it, and rename it with mv.
 
-Status: 0 where the policy is in force; 1 after `aeron_policyd: FAULT` on standard error; 2 for a usage error.";
+Status: 0 where the policy is in force; 1 after `aeron_policyd: FAULT` on standard error; 2 for a usage error.",
+};
 
-/// What `clients` says.
-const CLIENTS: &str = "\
+/// `clients`.
+pub(crate) const CLIENTS: Form = Form {
+    name: "clients",
+    about: "Prints the connections of a driver that serves",
+    places: &[],
+    options: &[DRIVER],
+    after: "\
 Example: no driver serves at that socket.
 
   $ aeron_policyd clients --driver /no/such/operator.sock
@@ -105,7 +264,8 @@ Example: no driver serves at that socket.
 
 Where one does, it prints a line for each connection, as `client 4 of p2 for 12 s: 0 publications, 1 subscriptions, 0 counters`.
 
-Status: 0; 1 after `aeron_policyd: FAULT` on standard error; 2 for a usage error.";
+Status: 0; 1 after `aeron_policyd: FAULT` on standard error; 2 for a usage error.",
+};
 
 /// What `serve` is asked for.
 #[derive(Clone, Copy)]
@@ -124,18 +284,22 @@ pub struct Doors<'a> {
     pub settings: &'a [&'a str],
     /// Words `ADDR=PRINCIPAL`.
     pub peers: &'a [&'a str],
+    /// What becomes of datagrams from other addresses, if it is said.
+    pub strangers: Option<&'a str>,
+    /// How many NAKs and status messages one address may send in the time, if a number is given.
+    pub asks: Option<u64>,
     /// After how many seconds the policy's file is read again, if it is.
     pub reload_every: Option<u64>,
-    /// How many clients a principal may have at once.
-    pub each: u64,
-    /// How many publications its clients may have at once; an equal part of all where none is given, and so the next three.
+    /// How many clients a principal may have at once; an equal part of all where none is given, and so the next four.
+    pub each: Option<u64>,
+    /// How many publications its clients may have at once.
     pub publications: Option<u64>,
     /// How many pages of 4,096 bytes the logs of these may take.
     pub pages: Option<u64>,
     pub subscriptions: Option<u64>,
     pub counters: Option<u64>,
-    /// After how many seconds without a poll a client that has a stream to read is let go, if it is.
-    pub poll_within: Option<u64>,
+    /// After how many seconds a client is let go that has something to read and does not go on; 0 for never.
+    pub poll_within: u64,
 }
 
 /// What an operator asks of a driver that serves.
@@ -147,188 +311,31 @@ pub enum Order {
     Status,
 }
 
-fn folder<'a>(alloc: Global) -> Arg<'a> {
-    Arg::new(alloc, "folder")
-        .long("folder")
-        .value_name("FOLDER")
-        .required(true)
-        .help("The folder of the sockets, in which nobody else may write")
-}
-
-fn names<'a>(alloc: Global) -> Arg<'a> {
-    Arg::new(alloc, "names")
-        .long("names")
-        .value_name("NAMES")
-        .help("Names of principals, lines `principal NAME NUMBER`, instead of p1 to p63")
-}
-
-fn door<'a>(alloc: Global) -> Arg<'a> {
-    Arg::new(alloc, "door")
-        .long("door")
-        .value_name("PRINCIPAL=OWNER")
-        .action(ArgAction::Append)
-        .help("A socket for a principal, and whose it is; may be given again for other principals")
-}
-
-fn mode<'a>(alloc: Global) -> Arg<'a> {
-    Arg::new(alloc, "mode")
-        .long("mode")
-        .value_name("MODE")
-        .default_value("660")
-        .help("The mode of a socket that is named by its path, as chmod has it")
-}
-
-/// A bound for each principal.
-fn bound<'a>(alloc: Global, name: &'static str, help: &'static str) -> Arg<'a> {
-    Arg::new(alloc, name)
-        .long(name)
-        .value_name("N")
-        .value_parser(value_parser!(u64).range(0..=1_000_000_000))
-        .help(help)
-}
-
-fn each<'a>(alloc: Global) -> Arg<'a> {
-    Arg::new(alloc, "each")
-        .long("each")
-        .value_name("N")
-        .default_value("16")
-        .value_parser(value_parser!(u64).range(1..=64))
-        .help("How many clients a principal may have at once")
-}
-
-fn poll_within<'a>(alloc: Global) -> Arg<'a> {
-    Arg::new(alloc, "poll-within")
-        .long("poll-within")
-        .value_name("SECONDS")
-        .value_parser(value_parser!(u64).range(1..=1_000_000_000))
-        .help("Lets a client go that has a stream to read and polls nothing for so long")
-}
-
-fn socket<'a>(alloc: Global) -> Arg<'a> {
-    Arg::new(alloc, "driver")
-        .long("driver")
-        .value_name("SOCKET")
-        .required(true)
-        .help("The socket of a driver that serves")
-}
-
-/// The bounds of `serve`.
-fn with_bounds<'a>(alloc: Global, command: Command<'a>) -> Result<Command<'a>, AllocError> {
-    command
-        .arg(each(alloc))?
-        .arg(bound(
-            alloc,
-            "publications",
-            "How many publications the clients of a principal may have at once",
-        ))?
-        .arg(bound(
-            alloc,
-            "pages",
-            "How many pages of 4,096 bytes the logs of these may take",
-        ))?
-        .arg(bound(
-            alloc,
-            "subscriptions",
-            "How many subscriptions they may have at once",
-        ))?
-        .arg(bound(alloc, "counters", "How many counters they may have at once"))?
-        .arg(poll_within(alloc))
-}
-
-/// The words of `serve`.
-fn serve<'a>(alloc: Global) -> Result<Command<'a>, AllocError> {
-    let command = Command::new(alloc, "serve")
-        .about("Starts a driver whose clients are in other processes")
-        .after_help(SERVE)
-        .arg(policy_option(alloc))?
-        .arg(folder(alloc))?
-        .arg(door(alloc))?
-        .arg(names(alloc))?
-        .arg(mode(alloc))?
-        .arg(setting(alloc))?
-        .arg(peer(alloc))?
-        .arg(reload_every(alloc))?;
-    with_bounds(alloc, command)
-}
-
-/// The words of `stat`.
-fn stat<'a>(alloc: Global) -> Result<Command<'a>, AllocError> {
-    let every = Arg::new(alloc, "every")
-        .long("every")
-        .value_name("SECONDS")
-        .value_parser(value_parser!(u64).range(1..=1_000_000_000))
-        .help("Prints them again after so many seconds each time");
-    Command::new(alloc, "stat")
-        .about("Prints the counters that a principal may see")
-        .after_help(STAT)
-        .arg(socket(alloc))?
-        .arg(every)
-}
-
-/// The words of a subcommand of operators.
-fn ordering<'a>(
-    alloc: Global,
-    name: &'static str,
-    about: &'static str,
-    text: &'static str,
-) -> Result<Command<'a>, AllocError> {
-    Command::new(alloc, name)
-        .about(about)
-        .after_help(text)
-        .arg(socket(alloc))
-}
-
-/// Adds the subcommands that serve, or speak to a driver that serves.
-pub(crate) fn with_serving<'a>(
-    alloc: Global,
-    command: Command<'a>,
-) -> Result<Command<'a>, AllocError> {
-    let command = with(command, serve(alloc))?;
-    let command = with(command, stat(alloc))?;
-    let command = with(
-        command,
-        ordering(alloc, "stop", "Tells a driver that serves to stop", STOP),
-    )?;
-    let command = with(
-        command,
-        ordering(
-            alloc,
-            "reload",
-            "Has a driver that serves read its policy again",
-            RELOAD,
-        ),
-    )?;
-    with(
-        command,
-        ordering(
-            alloc,
-            "clients",
-            "Prints the connections of a driver that serves",
-            CLIENTS,
-        ),
-    )
-}
-
 /// What `serve` is asked for.
 fn doors_in<'m, 'a>(of: &'m ArgMatches<'a>) -> Option<Doors<'m>>
     ensures given { IfSome result (λ doors. AreFound (found_of of.now) (doors_texts doors) []) }
     ensures answers { HasAll (found_of of.now) serve_needs → is_some result ≡ true }
 {
+    let policy = of.get_str("policy")?;
+    let folder = of.get_str("folder")?;
+    let mode = of.get_str("mode")?;
     Some(Doors {
-        policy: of.get_str("policy")?,
+        policy,
         names: of.get_str("names"),
-        folder: of.get_str("folder")?,
+        folder,
         doors: of.get_strs("door").unwrap_or(&[]),
-        mode: of.get_str("mode")?,
+        mode,
         settings: of.get_strs("setting").unwrap_or(&[]),
         peers: of.get_strs("peer").unwrap_or(&[]),
+        strangers: of.get_str("strangers"),
+        asks: number_in(of, "asks"),
         reload_every: number_in(of, "reload-every"),
-        each: number_in(of, "each")?,
+        each: number_in(of, "each"),
         publications: number_in(of, "publications"),
         pages: number_in(of, "pages"),
         subscriptions: number_in(of, "subscriptions"),
         counters: number_in(of, "counters"),
-        poll_within: number_in(of, "poll-within"),
+        poll_within: number_in(of, "poll-within")?,
     })
 }
 

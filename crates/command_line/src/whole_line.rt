@@ -6,11 +6,12 @@ ghost use Rattle.command_line.specs.Needs.{Answers, HasText, all_needs};
 ghost use Rattle.command_line.specs.Tasks.{AreFound, IsTask, task_name, task_numbers, task_texts};
 ghost use Rattle.std.specs.Prelude.{◌≡◌, ℕ, IfSome, List, Some, codes, is_some, true};
 
-use crate::message_words::{Messages, messages_in, with_messages};
-use crate::policy_words::{Asking, asking_in, with_policies};
+use crate::message_words::{self, Messages, messages_in};
+use crate::policy_words::{self, Asking, asking_in};
+use crate::rows::{Form, PLACED, Row, with_form};
 use crate::running_line::{self, Start};
-use crate::serving_line::with_serving;
-use clap::{Arg, ArgMatches, Command};
+use crate::serving_line;
+use clap::{ArgMatches, Command};
 use std::alloc::{AllocError, Global};
 
 /// What the program is.
@@ -53,8 +54,20 @@ Example: may p1 subscribe to `aeron:ipc`, stream 10, under the policy in `policy
 
 Status: 0 for an answer; 1 after `aeron_policyd: FAULT` on standard error, and after a bad line of a script; 2 for a usage error.";
 
-/// Two scripts with their answers.
-const SCRIPT: &str = "\
+/// The file of a script.
+const FILE: Row = Row {
+    id: "FILE",
+    help: "The script, of at most 16,777,216 bytes",
+    ..PLACED
+};
+
+/// `script`.
+const SCRIPT: Form = Form {
+    name: "script",
+    about: "Runs a script, and writes its answers to standard output",
+    places: &[FILE],
+    options: &[],
+    after: "\
 Example: a client of alice, attached at moment 0, asks to subscribe to `aeron:ipc`, stream 10, by a command with
 correlation id 11. The policy denies it, so the reply is an ON_ERROR (0x0f01) with code 1001 and the text
 `denied by default in policy 1`. Then a policy that allows is put in force, as policy 2.
@@ -136,7 +149,31 @@ went by last.
 Any other line answers `line N: bad line`, and ends the script.
 
 Status: 0 when the script ended; 1 after a bad line, and after `aeron_policyd: FAULT` on standard error (cannot read
-file, read failed, too long, write failed, no memory); 2 for a usage error.";
+file, read failed, too long, write failed, no memory); 2 for a usage error.",
+};
+
+/// Every subcommand, in the order of the help.
+const FORMS: [Form; 19] = [
+    policy_words::CHECK,
+    policy_words::DECIDE,
+    policy_words::SHOW,
+    policy_words::EXPLAIN,
+    policy_words::LINT,
+    policy_words::TEST,
+    policy_words::TABLE,
+    policy_words::DIFF,
+    SCRIPT,
+    message_words::ENCODE,
+    message_words::DECODE,
+    running_line::RUN,
+    running_line::PUBLISH,
+    running_line::SUBSCRIBE,
+    serving_line::SERVE,
+    serving_line::STAT,
+    serving_line::STOP,
+    serving_line::RELOAD,
+    serving_line::CLIENTS,
+];
 
 /// What the command line asks for.
 #[derive(Clone, Copy)]
@@ -151,38 +188,17 @@ pub enum Task<'a> {
     Start(Start<'a>),
 }
 
-fn script<'a>(alloc: Global) -> Result<Command<'a>, AllocError> {
-    let file = Arg::new(alloc, "FILE")
-        .required(true)
-        .help("The script, of at most 16,777,216 bytes");
-    Command::new(alloc, "script")
-        .about("Runs a script, and writes its answers to standard output")
-        .after_help(SCRIPT)
-        .arg(file)
-}
-
-/// Adds a subcommand, if there was memory for it.
-pub(crate) fn with<'a>(
-    command: Command<'a>,
-    subcommand: Result<Command<'a>, AllocError>,
-) -> Result<Command<'a>, AllocError> {
-    command.subcommand(subcommand?)
-}
-
 /// The words that the program takes.
 pub fn command<'a>(alloc: Global) -> Result<Command<'a>, AllocError> {
-    let command = Command::new(alloc, "aeron_policyd")
+    let mut command = Command::new(alloc, "aeron_policyd")
         .version(VERSION)
         .about(ABOUT)
         .after_help(USES)
         .subcommand_required(true);
-    let command = with_policies(alloc, command)?;
-    let command = with(command, script(alloc))?;
-    let command = with_messages(alloc, command)?;
-    let command = with(command, running_line::run(alloc))?;
-    let command = with(command, running_line::publish(alloc))?;
-    let command = with(command, running_line::subscribe(alloc))?;
-    with_serving(alloc, command)
+    for form in &FORMS {
+        command = with_form(alloc, command, form)?;
+    }
+    Ok(command)
 }
 
 fn script_task<'m, 'a>(of: &'m ArgMatches<'a>) -> Option<Task<'m>>
