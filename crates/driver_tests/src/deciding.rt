@@ -74,7 +74,7 @@ static ANSWERS: [Row; 6] = [
         "allowed by default in policy 1",
         false,
     ),
-    (OPEN, "aeron:tcp", -1, 0, "invalid channel: bad media", true),
+    (OPEN, "aeron:tcp", -1, 0, "invalid channel", true),
     (
         LATE,
         "aeron:ipc",

@@ -9,6 +9,8 @@ mod deeds;
 #[cfg(test)]
 mod ends;
 #[cfg(test)]
+mod images;
+#[cfg(test)]
 mod open_logs;
 #[cfg(test)]
 mod outcomes;

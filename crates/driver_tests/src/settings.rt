@@ -66,7 +66,7 @@ type Row = (
     bool,
 );
 
-static VALUES: [Row; 11] = [
+static VALUES: [Row; 10] = [
     (
         &[
             "client-liveness",
@@ -127,12 +127,6 @@ static VALUES: [Row; 11] = [
         true,
     ),
     (
-        &["images-per-source"],
-        &["1", "512", "008"],
-        &["0", "513", "-1", "+8", "18446744073709551617"],
-        true,
-    ),
-    (
         &["first-session", "initial-term"],
         &["-2147483648", "2147483647", "0", "-0", "-007", "007"],
         &["-2147483649", "2147483648", "+1", "--1", "-", "", "0x1"],
@@ -164,6 +158,7 @@ static VALUES: [Row; 11] = [
     (
         &[
             "session-id",
+            "images-per-source",
             "Mtu",
             "mtu=",
             "client_liveness",
@@ -172,7 +167,7 @@ static VALUES: [Row; 11] = [
             "",
         ],
         &[],
-        &["1408", "65536"],
+        &["8", "1408", "65536"],
         true,
     ),
     (&["linger", "mtu"], &["64", "1"], &[], false),
@@ -204,7 +199,7 @@ fn keys_take_their_values(rt: HostRuntime) {
 }
 
 /// A key, its value, the settings where nothing else is chosen, and whether they are so.
-static CHOSEN: [(&str, &str, Settings, bool); 23] = [
+static CHOSEN: [(&str, &str, Settings, bool); 21] = [
     (
         "client-liveness",
         "3",
@@ -333,24 +328,6 @@ static CHOSEN: [(&str, &str, Settings, bool); 23] = [
         true,
     ),
     (
-        "images-per-source",
-        "1",
-        Settings {
-            images_per_source: 1,
-            ..DEFAULT
-        },
-        true,
-    ),
-    (
-        "images-per-source",
-        "8",
-        Settings {
-            images_per_source: 7,
-            ..DEFAULT
-        },
-        false,
-    ),
-    (
         "first-session",
         "-5",
         Settings {
@@ -441,4 +418,45 @@ fn all_choose(alloc: Global, rows: &[(&str, &str, Settings, bool)]) -> bool {
 #[test]
 fn a_setting_is_that_of_its_key(rt: HostRuntime) {
     assert!(rt; all_choose(rt.alloc(), &CHOSEN));
+}
+
+/// A value for the images of one source address, and how many there may be then; `None` where it is none.
+static IMAGES: [(&str, Option<u32>); 9] = [
+    ("1", Some(1)),
+    ("008", Some(8)),
+    ("512", Some(512)),
+    ("0", None),
+    ("513", None),
+    ("-1", None),
+    ("+8", None),
+    ("", None),
+    ("18446744073709551617", None),
+];
+
+/// Whether such a value bounds the images of one source address so, and nothing else.
+fn bounds(alloc: Global, value: &str, wanted: Option<u32>) -> bool {
+    let mut choices = Choices::new(alloc);
+    let taken = choices.bound_images(value);
+    let settings = choices.settings;
+    drop(choices);
+    let images = wanted.unwrap_or(DEFAULT.images_per_source);
+    let same = Settings {
+        images_per_source: images,
+        ..DEFAULT
+    };
+    taken == wanted.is_some() && settings == same
+}
+
+fn all_bound(alloc: Global, rows: &[(&str, Option<u32>)]) -> bool {
+    for (value, wanted) in rows {
+        if !bounds(alloc, value, *wanted) {
+            return false;
+        }
+    }
+    true
+}
+
+#[test]
+fn images_of_one_source_are_bounded_beside_the_keys(rt: HostRuntime) {
+    assert!(rt; all_bound(rt.alloc(), &IMAGES));
 }

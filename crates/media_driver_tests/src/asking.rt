@@ -5,8 +5,8 @@ use media_driver::{Client, ClientReply, Clock, DriverNaming, Mail, OfferFault};
 use std::sync::Wait;
 use std::thread;
 
-/// How often a wait tries.
-pub(crate) const TRIES: u32 = 1_000_000;
+/// How often a wait tries: for some seconds at least, since what it waits for may itself sleep for a quarter of one.
+pub(crate) const TRIES: u32 = 10_000_000;
 
 /// What went wrong, or that nothing did.
 pub(crate) type Outcome = Result<(), &'static str>;
