@@ -1,5 +1,5 @@
 # What the generators of cases share: steps, commands, replies and frames in hexadecimal, and the rules by which a datagram
-# is read. All of it says in awk what docs/COMMANDS.md, docs/STREAMS.md and docs/SCRIPT.md say in words; none of it was taken
+# is read. All of it says in awk what docs/internals/COMMANDS.md, RULES.md and SCRIPT.md say in words; none of it was taken
 # from what the program answers, and none of it calls the program.
 #
 # A generator is called as `awk -v script=FILE -v answers=FILE -f rules.awk -f NAME.awk`: each line of the script that it

@@ -1,5 +1,5 @@
 # Each byte of ADD_SUBSCRIPTION of aeron:ipc changed to each other value, 11,475 commands. One that is granted is taken back at
-# once. What each is answered is said here in the words of docs/COMMANDS.md.
+# once. What each is answered is said here in the words of docs/internals/COMMANDS.md.
 function answer(hex, at, value,    correlation) {
     correlation = after(front(hex, 20), 12)
     # The type: of those that there are none has a layout that these bytes fit.

@@ -1,6 +1,6 @@
 # Each byte of a SETUP changed to each other value, 10,200 datagrams. Every one finds a driver with one subscription, of
 # 127.0.0.1:40123 and stream 10, and without an image: one that makes an image is followed by a tick at which that image is
-# silent. What a SETUP may say, where it joins and what it makes is said here in the words of docs/STREAMS.md.
+# silent. What a SETUP may say, where it joins and what it makes is said here in the words of docs/internals/RULES.md.
 
 # Whether a sender may send it: the lengths, the place, and how many terms came before.
 function is_bad_setup(hex,    term_length, mtu, terms) {

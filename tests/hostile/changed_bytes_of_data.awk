@@ -1,6 +1,6 @@
 # Each byte of a data frame changed to each other value, 8,925 datagrams. Every one finds an image of its own, which joined at
 # 0 and has no frame yet; then a reader polls, and a tick finds the image silent. Terms have 65,536 bytes, so the window is
-# half of that. What the frame is answered is said here in the words of docs/STREAMS.md.
+# half of that. What the frame is answered is said here in the words of docs/internals/RULES.md.
 function answer(hex,    fault, position, payload) {
     polled = ""
     fault = datagram_fault(hex)

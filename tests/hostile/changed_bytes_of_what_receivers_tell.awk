@@ -1,6 +1,6 @@
 # Each byte of a status message and of a NAK changed to each other value, 9,180 and 7,140 datagrams, on a publication that
 # has sent one datagram of 22 frames of 64 bytes. A frame that was resent lingers for no time, and each datagram has a moment
-# of its own, so the gate is as it was for each. What they do is said here in the words of docs/LOGS.md.
+# of its own, so the gate is as it was for each. What they do is said here in the words of docs/internals/LOGS.md.
 function answer_status(hex,    position, window) {
     if (int(byte(hex, 5) / 128)) { want("elicit"); return }
     position = position_of(0, word(hex, 16), word(hex, 20), 65536)

@@ -1,9 +1,9 @@
 # Four clients of three principals publish, subscribe, spy, take back, offer, poll and look, publishers elsewhere tell of
 # streams, time goes on, and one policy after another is put in force, of rules on any principal, act, channel and stream. All
 # that is granted, denied, opened and closed, what is reported to each client, and the decisions of every actor, are worked out here
-# from plain lists, and all pairs from the beginning after each event, in the words of docs/POLICY.md, STREAMS.md,
-# EMBEDDING.md, SCRIPT.md and STEPS.md: a third of the steps of clients go by an older registry, which their line names. A row of
-# numbers decides what comes.
+# from plain lists, and all pairs from the beginning after each event, in the words of docs/POLICY.md, docs/EMBEDDING.md and of
+# RULES.md, SCRIPT.md and STEPS.md in docs/internals: a third of the steps of clients go by an older registry, which their line
+# names. A row of numbers decides what comes.
 function next_below(bound) {
     state = state * 16807 % 2147483647
     return state % bound

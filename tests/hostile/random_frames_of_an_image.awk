@@ -1,7 +1,7 @@
 # An image of two readers is sent frames and pads of any length, in any order, at any place: in a row, twice, over one another,
 # below what is kept and beyond the window, one or some in a datagram, with heartbeats between. What each is answered, what
 # each poll then gives, and which NAK and status message each turn of the receiver sends, is worked out here by a map from
-# positions to frames, in the words of docs/STREAMS.md and docs/LOGS.md. A row of numbers decides what comes. There are two
+# positions to frames, in the words of docs/internals/RULES.md and LOGS.md. A row of numbers decides what comes. There are two
 # images, one after the other: one joins at 0, the other where eleven terms are left below the greatest position. Positions are
 # kept here from the join on.
 function next_below(bound) {

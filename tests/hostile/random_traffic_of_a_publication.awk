@@ -1,6 +1,6 @@
 # A publication is offered messages of any length and sends them, while status messages and NAKs of any position, window and
 # length come, at moments that go on by any step. What each offer, datagram and turn is answered is worked out here by the list
-# of all frames, in the words of docs/LOGS.md, docs/STEPS.md and docs/LOGS.md. A row of numbers decides what comes.
+# of all frames, in the words of docs/internals/LOGS.md and STEPS.md. A row of numbers decides what comes.
 function next_below(bound) {
     state = state * 16807 % 2147483647
     return state % bound

@@ -7,7 +7,7 @@ import stat
 import sys
 
 import aeron_policyd
-from harness import ALLOW, HERE, LeftOut, need, said, same
+from harness import ALLOW, HERE, LeftOut, need, said, same, until
 from raw import Peer
 
 ENTER = """
@@ -100,17 +100,99 @@ def refused(room, folder, *doors, more=()):
 
 
 def case_a_folder_where_others_may_write(room):
-    wanted = "aeron_policyd: no folder, or one where others may write"
     for mode in (0o777, 0o1777, 0o757, 0o775):
         folder = "%s/%o" % (room.path, mode)
         os.mkdir(folder)
         os.chmod(folder, mode)
-        same("a folder of mode %o" % mode, wanted, refused(room, folder))
+        same("a folder of mode %o" % mode, "aeron_policyd: others may write in " + folder, refused(room, folder))
         same("what is left there", [], os.listdir(folder))
+        # the folder above it: what is in a sticky one is moved by its owner alone
+        inner = folder + "/s"
+        if mode & 0o1000:
+            room.serve(folder=inner)
+            room.asked("stop", inner + "/operator.sock")
+            room.ended(room.driver)
+            same("what is left in a sticky folder's", [], os.listdir(inner))
+        else:
+            same("one in it", "aeron_policyd: others may write in " + folder, refused(room, inner))
+            same("what is left there", [], os.listdir(folder))
+        # a door there
+        words = refused(room, room.folder, "p1=%s/bus" % folder)
+        same("a door in it", "aeron_policyd: others may write in " + folder, words)
+        same("what is left there", ["s"] if mode & 0o1000 else [], os.listdir(folder))
+    same("what is left of the other doors", [], os.listdir(room.folder))
     with open(room.path + "/file", "w", encoding="ascii"):
         pass
-    same("a file", wanted, refused(room, room.path + "/file"))
-    same("no folder above", wanted, refused(room, room.path + "/none/none"))
+    same("a file", "aeron_policyd: no folder %s/file" % room.path, refused(room, room.path + "/file"))
+    same("no folder above", "aeron_policyd: no folder %s/none" % room.path, refused(room, room.path + "/none/none"))
+
+
+def case_a_folder_of_another_user(room):
+    if os.getuid() != 0:
+        raise LeftOut("only root can give folders away")
+    theirs = room.path + "/theirs"
+    os.mkdir(theirs, 0o755)
+    os.chown(theirs, 61002, 61002)
+    wanted = "aeron_policyd: folder %s belongs to user 61002" % theirs
+    same("it", wanted, refused(room, theirs))
+    same("one that would be made in it", wanted, refused(room, theirs + "/s"))
+    os.mkdir(theirs + "/mine", 0o755)
+    same("one of root's in it", wanted, refused(room, theirs + "/mine"))
+    same("a door in it", wanted, refused(room, room.folder, "p2", "p1=%s/bus" % theirs))
+    # a link to it, and one in it to a folder that is the driver's own
+    link = room.path + "/link"
+    os.symlink(theirs, link)
+    same("a link to it", wanted, refused(room, link))
+    same("a door behind a link to it", wanted, refused(room, room.folder, "p1=%s/bus" % link))
+    same("what is left there", ["mine"], os.listdir(theirs))
+    same("what is left of the other doors", [], os.listdir(room.folder))
+    same("who has it", 61002, os.stat(theirs).st_uid)
+
+
+def case_a_link_in_the_place_of_a_socket(room):
+    """No call follows one: what it leads to stays as it is."""
+    secret = room.path + "/secret"
+    with open(secret, "w", encoding="ascii") as file:
+        file.write("kept\n")
+    os.chmod(secret, 0o600)
+    before = os.stat(secret)
+    for name in ("p1.sock", "operator.sock"):
+        os.makedirs(room.folder, 0o755, exist_ok=True)
+        os.symlink(secret, "%s/%s" % (room.folder, name))
+        words = refused(room, room.folder, "p1=%d" % os.getuid())
+        same(name, "aeron_policyd: %s/%s is there, and is no socket" % (room.folder, name), words)
+        same("what is there", [name], os.listdir(room.folder))
+        os.remove("%s/%s" % (room.folder, name))
+    # a link where sockets are made
+    os.mkdir(room.path + "/elsewhere", 0o700)
+    with open(room.path + "/elsewhere/s", "w", encoding="ascii"):
+        pass
+    os.symlink(room.path + "/elsewhere", room.folder + "/.new")
+    words = refused(room, room.folder)
+    same("a link where they are made", "aeron_policyd: no folder %s/.new" % room.folder, words)
+    same("what it leads to", ["s"], os.listdir(room.path + "/elsewhere"))
+    after = os.stat(secret)
+    same("owner and mode", (before.st_uid, before.st_mode), (after.st_uid, after.st_mode))
+    os.remove(room.folder + "/.new")
+    # what a driver left that was killed as it made one is taken away
+    os.mkdir(room.folder + "/.new", 0o700)
+    left = socket.socket(socket.AF_UNIX, socket.SOCK_STREAM)
+    left.bind(room.folder + "/.new/s")
+    left.close()
+    room.serve(doors=("p1",))
+    same("what is there then", ["operator.sock", "p1.sock"], sorted(os.listdir(room.folder)))
+
+
+def case_a_folder_behind_a_link(room):
+    """Its sockets are where the link led when the driver started."""
+    os.mkdir(room.path + "/real", 0o755)
+    os.symlink(room.path + "/real", room.path + "/link")
+    room.serve(doors=("p1", "p2=%s/link/bus" % room.path), folder=room.path + "/link")
+    os.remove(room.path + "/link")
+    same("what is there", ["bus", "operator.sock", "p1.sock"], sorted(os.listdir(room.path + "/real")))
+    room.asked("stop", room.path + "/real/operator.sock")
+    room.ended(room.driver)
+    same("what is left", [], os.listdir(room.path + "/real"))
 
 
 def case_a_second_driver_on_the_same_folder(room):
@@ -138,9 +220,11 @@ def case_a_send_address_that_is_taken(room):
         except OSError:
             # somebody else has it
             pass
-        driver = room.serve()
+        driver = room.serve(has_port=False)
         wanted = "cannot open 127.0.0.1:40000: nothing is sent over UDP, unless --setting send-address names a free address"
-        same("what is said", [wanted, "serving"], said(driver.err).splitlines())
+        # its sender then says once that nothing is read there
+        wanted = [wanted, "serving", "cannot read at 127.0.0.1:40000"]
+        until("what is said", lambda: said(driver.err).splitlines() == wanted)
         with aeron_policyd.connect(room.at("p1")) as one, aeron_policyd.connect(room.at("p2")) as two:
             one.keepalive()
             two.keepalive()
@@ -168,6 +252,15 @@ def case_doors_that_are_none(room):
     for door in ("p64", "p1=", "p1=x", "p1=1:", "p1=-1", "nobody=1:2:3"):
         words = refused(room, room.path + "/t", "p2", door)
         need(words.startswith("aeron_policyd: "), words)
+    # paths that lead out of a folder, hide there, or move a cursor
+    os.mkdir(room.path + "/of_p1", 0o755)
+    for path in ("../of_p1/bus", "/../bus", "/.bus", "/of_p1/../bus", "/of_p1/.bus", "/of_p1/bus/", "/of_p1//bus", "/of_p1/b\x1b[2J", "/of_p1/b..us"):
+        if path.startswith("/"):
+            path = room.path + path
+        words = refused(room, room.path + "/t", "p2", "p1=" + path)
+        need("\x1b" not in words, words)
+        need(words.startswith("aeron_policyd: --door p1=") and "wanted PRINCIPAL" in words, words)
+    same("what is left there", [], os.listdir(room.path + "/of_p1"))
     same("what serves there", 1, room.call("stat", "--driver", room.path + "/t/p2.sock")[0])
 
 
@@ -198,6 +291,28 @@ def case_a_door_that_is_named_by_its_path(room):
     room.asked("stop")
     same("status of the driver", 0, room.ended(room.driver))
     same("what is left", (False, True), (os.path.exists(path), os.path.isdir(room.path + "/of_p1")))
+
+
+def case_names_that_are_none_of_a_file(room):
+    """A name makes a socket's: it leads out of no folder, hides nowhere, and moves no cursor."""
+    names = room.path + "/names"
+    for name, shown in (
+        (b"../other/x", "../other/x"),
+        (b"a/b", "a/b"),
+        (b".", "."),
+        (b"..", ".."),
+        (b".new/s", ".new/s"),
+        (b".hidden", ".hidden"),
+        (b"a..b", "a..b"),
+        (b"\x1b[2J", "<27>[2J"),
+        (b"a\x7f", "a<127>"),
+    ):
+        with open(names, "wb") as file:
+            file.write(b"principal desk 2\nprincipal " + name + b" 1\n")
+        words = refused(room, room.folder, "desk", more=("--names", names))
+        wanted = "%s:2: %s: wanted a name that has no `/`, no `..` and no control byte, and does not begin with `.`" % (names, shown)
+        same(repr(name), "aeron_policyd: " + wanted, words)
+    same("what is there", False, os.path.exists(room.folder))
 
 
 def case_doors_by_the_names_of_principals(room):

@@ -9,6 +9,8 @@ import sys
 import threading
 import time
 
+from contextlib import contextmanager
+
 import aeron_policyd
 from harness import ALLOW, HERE, PATIENT, Failed, need, said, same, soon, until
 from raw import (
@@ -21,6 +23,7 @@ from raw import (
     TAKEN,
     Over,
     Peer,
+    close,
     code_of,
     command,
     mail,
@@ -29,12 +32,24 @@ from raw import (
     publish,
     record,
     subscribe,
+    terminate,
     words_of,
 )
 
 # How long clients may be silent where that is waited for, in seconds: longer than a busy machine holds one up.
 LIVENESS = 4.0
 SHORT = ("--setting", "client-liveness=%d" % (LIVENESS * 1e9))
+
+
+@contextmanager
+def in_time():
+    """Where clients may be silent for a short while alone, one that the machine holds up for longer is let go."""
+    try:
+        yield
+    except Over as over:
+        soon("told 1004" not in str(over), "the machine held a client up:", over)
+        raise
+
 
 WAITING = """
 import sys
@@ -43,16 +58,18 @@ from raw import Peer, poll, mail, subscribe
 peer = Peer(sys.argv[1]).enter()
 registration = peer.registered(subscribe)
 source = peer.image()
+word, count = sys.argv[3], int(sys.argv[4])
 print(peer.client, flush=True)
 while True:
-    peer.send(poll(registration, source, wait=1000) if sys.argv[3] == "poll" else mail(1000))
-    peer.answer()
+    peer.send(poll(registration, source, wait=1000) if word == "poll" else mail(1000) * count)
+    for _ in range(count):
+        peer.answer()
 """
 
 
-def waiting(room, request):
-    """A process that waits in the driver, and its client id."""
-    process = room.start(sys.executable, "-c", WAITING, room.at("p2"), HERE, request)
+def waiting(room, request, ahead=1):
+    """A process that waits in the driver, and sent so many requests ahead for mail."""
+    process = room.start(sys.executable, "-c", WAITING, room.at("p2"), HERE, request, str(ahead))
     until("a process that waits", lambda: said(process.out).strip() or process.poll() is not None)
     need(process.poll() is None, said(process.err))
     time.sleep(0.1)
@@ -77,6 +94,54 @@ def case_a_client_is_killed_in_a_wait(room):
             until("no client of p2", lambda: len(room.clients()) == 1)
     soon(sorted(times)[3] < 100 and max(times) < 700, "a place is free after so many ms:", times)
     until("no client", lambda: room.clients() == [])
+
+
+def case_a_client_is_killed_with_waits_ahead(room):
+    """Its place is free as soon, however many requests it sent ahead that wait."""
+    room.serve("--each", "1", *PATIENT)
+    times = []
+    publisher = Peer(room.at("p1")).enter()
+    publisher.registered(publish)
+    for number in (1, 100, 600):
+        process = waiting(room, "mail", number)
+        process.send_signal(signal.SIGKILL)
+        process.wait()
+        begun = time.monotonic()
+        until("a place for another client", lambda: told(room.at("p2")) == [])
+        times.append(int((time.monotonic() - begun) * 1000))
+        until("no client of p2", lambda: len(room.clients()) == 1)
+    publisher.close()
+    soon(max(times) < 300, "a place is free after so many ms:", times)
+
+
+def case_a_slow_operator_keeps_nobody_out(room):
+    """An operator has 200 ms in all, however it asks."""
+    room.serve(*PATIENT)
+    times = []
+    for _ in range(3):
+        with socket.socket(socket.AF_UNIX, socket.SOCK_STREAM) as operator:
+            operator.connect(room.at("operator"))
+            ends = threading.Event()
+
+            def dribble():
+                for byte in struct.pack("<II", 4, 9):
+                    try:
+                        operator.send(bytes([byte]))
+                    except OSError:
+                        return
+                    if ends.wait(0.15):
+                        return
+
+            thread = threading.Thread(target=dribble)
+            thread.start()
+            time.sleep(0.05)
+            begun = time.monotonic()
+            with Peer(room.at("p1")) as one:
+                one.enter()
+                times.append(time.monotonic() - begun)
+            ends.set()
+            thread.join()
+    soon(sorted(times)[1] < 0.4, "who comes in waits", times)
 
 
 def told(path):
@@ -127,7 +192,7 @@ def case_a_driver_is_killed(room):
 
 
 def case_a_driver_stops(room):
-    driver = room.serve()
+    driver = room.serve(*PATIENT)
     reader = room.start(room.program, "subscribe", "--driver", room.at("p2"), "aeron:ipc", "10")
     until("a client", lambda: len(room.clients()) == 1)
     with Peer(room.at("p1")) as one, Peer(room.at("p1")) as other:
@@ -160,7 +225,7 @@ allow = false
 
 
 def case_a_client_ends_the_driver(room):
-    driver = room.serve(policy=TERMINATE)
+    driver = room.serve(*PATIENT, policy=TERMINATE)
     with aeron_policyd.connect(room.at("p1")) as one, aeron_policyd.connect(room.at("p2")) as two:
         try:
             two.terminate()
@@ -181,9 +246,78 @@ def case_a_client_ends_the_driver(room):
     need(not os.path.exists(room.at("p1")), "a socket is left")
 
 
+# The only right that p1 has.
+READS = """version = 1
+default = "deny"
+
+[[rule]]
+name = "p1 reads"
+principal = "p1"
+act = ["subscribe", "image", "receive"]
+channel = "aeron:ipc"
+allow = true
+"""
+
+DENIED = b"denied by default in policy 1"
+
+
+def answered(peer, count):
+    """The replies to so many commands: each as its type and correlation id, and the text of an error."""
+    replies, end = [], time.monotonic() + 60
+    while len(replies) < count and time.monotonic() < end:
+        replies += peer.replies(200)
+    return [(struct.unpack_from("<IQ", reply), reply[20:] if reply[:2] == b"\x01\x0f" else b"") for reply in replies]
+
+
+def case_a_denied_end_is_no_end(room):
+    """Whoever is denied the driver's end does not get it by another command of the same correlation id."""
+    driver = room.serve(*PATIENT, policy=READS)
+    denied, done = ((0x0F01, 5), DENIED), ((0x0F04, 5), b"")
+    with Peer(room.at("p2")) as other:
+        other.enter()
+        for requests, wanted in (
+            ((terminate,), [denied]),
+            ((close,), [done]),
+            ((terminate, close), [denied, done]),
+        ):
+            with Peer(room.at("p1")) as one:
+                one.enter()
+                for request, reply in zip(requests, wanted):
+                    same("the answer", [DONE], [kind for kind, _ in one.ask(request(one.client, 5))])
+                    same("the reply", [reply], answered(one, 1))
+                same("what it is told then", [DONE], [kind for kind, _ in one.ask(mail())])
+        # both before the first of them is answered, in both orders; a client that has gone is none
+        gone = ((0x0F01, 5), b"wrong client")
+        for first, second, wanted in ((terminate, close, [denied, done]), (close, terminate, [done, gone])):
+            with Peer(room.at("p1")) as one:
+                one.enter()
+                one.send(first(one.client, 5) + second(one.client, 5))
+                same("the answers", [DONE, DONE], [one.answer()[0][0], one.answer()[0][0]])
+                same("the replies", wanted, answered(one, 2))
+                same("what it is told then", [DONE], [kind for kind, _ in one.ask(mail())])
+        same("what another is told", [DONE], [kind for kind, _ in other.ask(mail())])
+        with Peer(room.at("p1")) as one:
+            need(one.enter().registered(subscribe), "who comes then subscribes")
+    need(driver.poll() is None, "the driver ended")
+
+
+def case_one_that_ends_the_driver_and_hangs_up(room):
+    """No dead driver is left behind where nobody reads that it was ended."""
+    driver = room.serve(*PATIENT, policy=TERMINATE)
+    with Peer(room.at("p2")) as other:
+        other.enter()
+        with Peer(room.at("p1")) as one:
+            one.enter()
+            one.send(terminate(one.client, 1))
+        same("status of the driver", 0, room.ended(driver))
+        told = [(code_of(body), words_of(body)) for kind, body in other.rest() if kind == BYE]
+        soon(told, "no last word")
+        same("what another client is told", [(1010, "stopped")], told)
+
+
 def case_a_silent_client_is_let_go(room):
     room.serve(*SHORT)
-    with Peer(room.at("p1")) as silent, Peer(room.at("p2")) as alive, Peer(room.at("p2")) as heard:
+    with in_time(), Peer(room.at("p1")) as silent, Peer(room.at("p2")) as alive, Peer(room.at("p2")) as heard:
         silent.enter(), alive.enter(), heard.enter()
         same("the liveness", LIVENESS * 1e9, silent.liveness)
         silent.registered(subscribe)
@@ -206,7 +340,7 @@ def case_a_silent_client_is_let_go(room):
 
 def case_one_that_sends_and_never_reads(room):
     room.serve(*SHORT)
-    with Peer(room.at("p1")) as deaf, Peer(room.at("p2")) as other:
+    with in_time(), Peer(room.at("p1")) as deaf, Peer(room.at("p2")) as other:
         deaf.enter()
         deaf.socket.settimeout(0.5)
         sent = 0
@@ -257,7 +391,7 @@ def images_of(peer, count):
 
 def case_one_that_subscribes_and_never_polls(room):
     """It holds up the publishers of its stream, and nobody else; they go on when it is gone."""
-    room.serve()
+    room.serve(*PATIENT)
     with Peer(room.at("p1")) as lazy, Peer(room.at("p2")) as other, Peer(room.at("p2")) as publisher:
         lazy.enter(), other.enter(), publisher.enter()
         lazy.registered(subscribe, 10)
@@ -286,7 +420,7 @@ def case_one_that_subscribes_and_never_polls(room):
 
 def case_what_was_sent_before_the_end_is_done(room):
     """A client may send and close: its offers are in the log all the same."""
-    room.serve("--setting", "linger=2000000000")
+    room.serve(*PATIENT, "--setting", "linger=5000000000")
     with Peer(room.at("p2")) as two:
         two.enter()
         subscription = two.registered(subscribe)
@@ -298,8 +432,14 @@ def case_what_was_sent_before_the_end_is_done(room):
             one.socket.shutdown(socket.SHUT_WR)
             same("the answers", [TAKEN] * 100, [kind for kind, _ in one.rest()])
         got = []
-        until("what it sent", lambda: got.extend(
-            body[12:] for kind, body in two.ask(poll(subscription, source, wait=100)) if kind == FRAGMENT) or len(got) == 100)
+
+        def read():
+            answer = two.ask(poll(subscription, source, wait=100))
+            got.extend(body[12:] for kind, body in answer if kind == FRAGMENT)
+            soon(answer[-1][0] == DONE or len(got) == 100, "the log went before it was read:", len(got))
+            return len(got) == 100
+
+        until("what it sent", read)
         same("what is read", [b"%d" % number for number in range(100)], got)
         until("the log goes with its client", lambda: any(reply[:2] == b"\x05\x0f" for reply in two.replies(200)))
 
@@ -318,7 +458,7 @@ def ask_for_errors(peer, count):
 
 def case_mail_that_nobody_took(room):
     """What a client left in its ring of replies takes no reply from the next one."""
-    room.serve()
+    room.serve(*PATIENT)
     for _ in range(3):
         leaving = [Peer(room.at("p1")).enter() for _ in range(4)]
         for peer in leaving:
@@ -338,7 +478,7 @@ def case_mail_that_nobody_took(room):
 
 
 def case_replies_that_find_no_room_are_counted(room):
-    room.serve()
+    room.serve(*PATIENT)
     with Peer(room.at("p1")) as one, Peer(room.at("p2")) as two:
         one.enter(), two.enter()
         ask_for_errors(one, 300)

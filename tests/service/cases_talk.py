@@ -1,7 +1,6 @@
 """Processes that talk, and what the policy says of it."""
 
 import os
-import random
 import shutil
 import signal
 import socket
@@ -9,7 +8,7 @@ import struct
 import threading
 import time
 
-from harness import ALLOW, PATIENT, TOP, Failed, need, said, same, soon, until
+from harness import ALLOW, PATIENT, TOP, Failed, free_ports, need, said, same, soon, until
 from raw import (
     DONE,
     FRAGMENT,
@@ -21,6 +20,7 @@ from raw import (
     TAKEN,
     Peer,
     code_of,
+    command,
     image_positions,
     mail,
     offer,
@@ -31,6 +31,7 @@ from raw import (
     publish_alone,
     session,
     subscribe,
+    text,
     unpublish,
     words_of,
 )
@@ -341,21 +342,6 @@ def case_positions_of_a_log(room):
         refused("a publication that is gone", one, publication_positions(publication))
 
 
-def free_ports(count):
-    """So many ports that nobody receives by, below those that the system gives to whoever asks for any."""
-    found = []
-    for port in random.sample(range(10_000, 20_000), 1_000):
-        with socket.socket(socket.AF_INET, socket.SOCK_DGRAM) as probe:
-            try:
-                probe.bind(("127.0.0.1", port))
-                found.append(port)
-            except OSError:
-                pass
-        if len(found) == count:
-            return found
-    raise Failed("no port is free")
-
-
 def case_positions_over_datagrams(room):
     """What the receiver that is heard has taken, and what the subscription has of it."""
     send, receive = free_ports(2)
@@ -562,3 +548,16 @@ def case_counters_are_seen_as_the_policy_says(room):
         status, out, _ = room.call("stat", "--driver", room.at("p1"))
         same("status of stat", 0, status)
         need(any("2000" in line and "-5" in line and "orders" in line for line in out.splitlines()), out)
+
+
+def case_what_another_one_wrote_is_printed_plain(room):
+    room.serve()
+    label = "a\x1b[2J\n    999       9999                     1  forged\r\x7f\t"
+    with Peer(room.at("p1")) as one:
+        one.enter()
+        one.registered(lambda client, correlation: command(9, client, correlation, struct.pack("<iI", 2000, 0) + text(label)))
+        status, out, err = room.call("stat", "--driver", room.at("p2"))
+        same("status of stat", (0, ""), (status, err))
+        (line,) = [line for line in out.split("\n") if "2000" in line]
+        need(line.endswith("  a<27>[2J<10>    999       9999                     1  forged<13><127><9>"), line)
+        need(not [letter for letter in out if not (" " <= letter <= "~" or letter == "\n")], repr(out))

@@ -2,9 +2,11 @@
 
 import importlib
 import os
+import random
 import re
 import shutil
 import signal
+import socket
 import subprocess
 import sys
 import tempfile
@@ -23,7 +25,7 @@ LONGEST = 400
 TRIES = 5
 
 # The files that have cases, in their order.
-FILES = ("cases_talk", "cases_python", "cases_c", "cases_records", "cases_ends", "cases_bounds", "cases_many", "cases_waits", "cases_doors")
+FILES = ("cases_talk", "cases_pages", "cases_terminal", "cases_python", "cases_c", "cases_records", "cases_ends", "cases_bounds", "cases_many", "cases_waits", "cases_doors", "cases_files", "cases_denials", "cases_words", "cases_revoked", "cases_gaps", "cases_calls", "cases_strangers", "cases_soak")
 
 # The code and the text of what an operator is told who asks for nothing in time.
 NOTHING_ASKED = (6, "unknown request")
@@ -32,8 +34,8 @@ ALLOW = 'version = 1\ndefault = "allow"\n'
 DENY = 'version = 1\ndefault = "deny"\n'
 
 
-# Words of `serve`: clients may be silent for longer than a busy machine takes for all of a case.
-PATIENT = ("--setting", "client-liveness=300000000000")
+# Words of `serve`: clients may be silent, and leave what there is to read, for longer than a busy machine takes for all of a case.
+PATIENT = ("--setting", "client-liveness=300000000000", "--poll-within", "0")
 
 
 class LeftOut(Exception):
@@ -76,6 +78,26 @@ def until(what, holds, seconds=60.0):
         if time.monotonic() - begun > seconds:
             raise Failed("%s: not within %g s" % (what, seconds))
         time.sleep(0.005)
+
+
+def free_ports(count):
+    """So many ports that nobody receives by, below those that the system gives to whoever asks for any."""
+    found = []
+    for port in random.sample(range(10_000, 20_000), 1_000):
+        with socket.socket(socket.AF_INET, socket.SOCK_DGRAM) as probe:
+            try:
+                probe.bind(("127.0.0.1", port))
+                found.append(port)
+            except OSError:
+                pass
+        if len(found) == count:
+            return found
+    raise Failed("no port is free")
+
+
+def own_port():
+    """Words of `serve`: it sends from a port of its own."""
+    return "--setting", "send-address=127.0.0.1:%d" % free_ports(1)[0]
 
 
 class Room:
@@ -151,9 +173,11 @@ class Room:
             file.write(words)
         os.rename(self.policy_path + ".new", self.policy_path)
 
-    def serve(self, *words, policy=ALLOW, doors=("p1", "p2"), folder=None):
-        """Starts a driver, and waits until it serves."""
+    def serve(self, *words, policy=ALLOW, doors=("p1", "p2"), folder=None, has_port=True):
+        """Starts a driver, and waits until it serves. It sends from a port of its own, unless words or the program say from which."""
         self.policy(policy)
+        if has_port and not any(word.startswith("send-address=") for word in words):
+            words = (*words, *own_port())
         folder = folder or self.folder
         doors = [word for door in doors for word in ("--door", door)]
         self.driver = self.start(self.program, "serve", "--policy", self.policy_path, "--folder", folder, *doors, *words)
@@ -190,6 +214,8 @@ class Room:
             try:
                 return getattr(aeron_policyd, word)(path or self.at("operator"))
             except aeron_policyd.Ended as end:
+                # a driver that is held up for 200 ms where it answers says nothing
+                soon(end.code is not None, "an operator is told nothing:", end)
                 if end.code != NOTHING_ASKED[0]:
                     raise
         raise Failed("an operator is late each time")
@@ -216,13 +242,18 @@ def said(path):
         return ""
 
 
-def kilobytes(pid):
+def kilobytes(pid, what="VmRSS"):
     """How much memory a process has resident."""
     with open("/proc/%d/status" % pid, encoding="ascii") as lines:
         for line in lines:
-            if line.startswith("VmRSS:"):
+            if line.startswith(what + ":"):
                 return int(line.split()[1])
-    raise Failed("no VmRSS")
+    raise Failed("no " + what)
+
+
+def highest(pid):
+    """How much it had resident at most, in kilobytes."""
+    return kilobytes(pid, "VmHWM")
 
 
 def seconds_of(pid):
