@@ -10,7 +10,7 @@
 #include <string.h>
 #include <time.h>
 
-#define AHEAD 512
+#define AHEAD 8192
 
 static const char channel[] = "aeron:ipc?term-length=1m";
 static unsigned char buffer[1 << 20];

@@ -16,9 +16,12 @@ def main(folder: str) -> None:
         prices = desk.subscription("aeron:ipc", 10)
         publication = gateway.publication("aeron:ipc", 10)
         for price in (b"bid 99", b"ask 101"):
-            publication.offer(price, wait=1.0)
-        for message in prices.poll(wait=1.0):
-            print("the desk reads:", message.data.decode())
+            publication.send(price)
+        for message in prices.messages(timeout=1.0):
+            if isinstance(message, aeron_policyd.Gap):
+                print("something was lost:", message.why)
+            else:
+                print("the desk reads:", message.data.decode())
         try:
             desk.publication("aeron:ipc", 10)
         except aeron_policyd.Denied as denied:

@@ -1,2 +1,3 @@
 mkdir -m 755 /run/aeron_policyd
-aeron_policyd serve --policy policy.toml --folder /run/aeron_policyd --door p1=$(id -u trading) --door p2=$(id -u telemetry)
+aeron_policyd serve --policy /etc/aeron_policyd/policy.toml --names /etc/aeron_policyd/driver.names --folder /run/aeron_policyd \
+    --door trading=$(id -u trading) --door telemetry=$(id -u telemetry)

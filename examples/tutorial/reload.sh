@@ -1,2 +1,3 @@
-cp next.toml /tmp/driver/policy.toml
+cp next.toml /tmp/driver/policy.new
+mv /tmp/driver/policy.new /tmp/driver/policy.toml
 aeron_policyd reload --driver /tmp/driver/operator.sock

@@ -6,77 +6,112 @@ A driver that serves has a Unix socket for each principal, and whoever may open 
 
     with aeron_policyd.connect("/run/aeron_policyd/p1.sock") as driver:
         with driver.publication("aeron:ipc", 10) as prices:
-            prices.offer(b"bid 99", wait=1.0)
+            prices.send(b"bid 99")
 
     with aeron_policyd.connect("/run/aeron_policyd/p2.sock") as driver:
         with driver.subscription("aeron:ipc", 10) as prices:
-            for message in prices.poll(wait=1.0):
-                print(message.data)
+            for message in prices:
+                print(message)
 
 A call raises `Denied` where the policy denies it, with the number of the rule and of the policy; another `Refused` where the
-driver refuses it for another reason; and `Ended` where the connection is over. Connecting anew is up to the caller.
+driver refuses it for another reason; and `Ended` where the connection is over, which ``connect(path, reconnect=True)`` makes
+anew. ``aeron_policyd.aio`` is the same for asyncio. The logger ``aeron_policyd`` is told what goes on.
 
-A connection belongs to one thread at a time. All times are in seconds.
+Several threads may use a connection. All times are in seconds, and `None` is without end.
 """
 
-from aeron_policyd.driver import (
-    Counter,
-    Driver,
-    Image,
-    ImagePositions,
-    Message,
-    Offered,
-    Publication,
-    PublicationPositions,
-    Row,
-    Subscription,
-    connect,
-)
+import logging
+
+from aeron_policyd.codes import Code
+from aeron_policyd.driver import Driver, connect
 from aeron_policyd.errors import (
     BackPressure,
     Bound,
+    ClientGone,
     Closed,
     Conflict,
     Denied,
     Ended,
     Full,
+    InvalidChannel,
+    Malformed,
+    MaxPosition,
+    NoLook,
     NoMemory,
     NoReply,
+    NoRoom,
     NoSubscriber,
+    NotOperator,
+    OfferAgain,
     ProtocolError,
+    QueueFull,
     Refused,
     ServiceError,
+    Skipped,
     TooLong,
+    Unknown,
+    UsedCorrelation,
 )
+from aeron_policyd.kept import Counter, Messages, Publication, Subscription
 from aeron_policyd.operators import clients, reload, stop
+from aeron_policyd.values import (
+    Buffer,
+    Event,
+    Gap,
+    Image,
+    ImagePositions,
+    Message,
+    Offered,
+    PublicationPositions,
+    Row,
+)
 
-__version__ = "1.0.0"
+__version__ = "1.1.0"
+
+logging.getLogger("aeron_policyd").addHandler(logging.NullHandler())
 
 __all__ = [
     "BackPressure",
     "Bound",
+    "Buffer",
+    "ClientGone",
     "Closed",
+    "Code",
     "Conflict",
     "Counter",
     "Denied",
     "Driver",
     "Ended",
+    "Event",
     "Full",
+    "Gap",
     "Image",
     "ImagePositions",
+    "InvalidChannel",
+    "Malformed",
+    "MaxPosition",
     "Message",
+    "Messages",
+    "NoLook",
     "NoMemory",
     "NoReply",
+    "NoRoom",
     "NoSubscriber",
+    "NotOperator",
+    "OfferAgain",
     "Offered",
     "ProtocolError",
     "Publication",
     "PublicationPositions",
+    "QueueFull",
     "Refused",
     "Row",
     "ServiceError",
+    "Skipped",
     "Subscription",
     "TooLong",
+    "Unknown",
+    "UsedCorrelation",
     "clients",
     "connect",
     "reload",

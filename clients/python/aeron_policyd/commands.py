@@ -19,6 +19,7 @@ class Granted(NamedTuple):
     correlation: int
     registration: int = 0
     session: int = 0
+    removal: int = 0  # the type of the command that takes back what was added
 
 
 class Rejected(NamedTuple):
@@ -118,18 +119,19 @@ def read_reply(reply: bytes) -> Reply:
         correlation, code = struct.unpack_from("<Qi", reply, 4)
         return Rejected(correlation, code, _text_at(reply, 16))
     if type_id == 0x0F02:
-        fields = struct.unpack_from("<QQiiQ", reply, 4)
-        return Came(*fields, _text_at(reply, 36))
+        source, subscription, session, stream, position = struct.unpack_from("<QQiiQ", reply, 4)
+        return Came(source, subscription, session, stream, position, _text_at(reply, 36))
     if type_id in (0x0F03, 0x0F06):
         correlation, registration, session, _stream = struct.unpack("<QQii", reply[4:])
-        return Granted(correlation, registration, session)
+        return Granted(correlation, registration, session, REMOVE_PUBLICATION)
     if type_id == 0x0F04:
         return Granted(*struct.unpack("<Q", reply[4:]))
     if type_id == 0x0F05:
         source, subscription, _stream = struct.unpack("<QQi", reply[4:])
         return Went(source, subscription)
     if type_id in (0x0F07, 0x0F08):
-        return Granted(*struct.unpack("<QQ", reply[4:]))
+        correlation, registration = struct.unpack("<QQ", reply[4:])
+        return Granted(correlation, registration, 0, REMOVE_SUBSCRIPTION if type_id == 0x0F07 else REMOVE_COUNTER)
     if type_id == 0x0F0A:
         return TimedOut(*struct.unpack("<Q", reply[4:]))
     return Other(type_id)

@@ -3,23 +3,29 @@
 from __future__ import annotations
 
 import re
-from typing import Optional
+from typing import Any, Optional
+
+from aeron_policyd.codes import Code, named
 
 
 class ServiceError(Exception):
-    """Whatever this package raises, but for the `OSError` of a socket that can't be opened."""
+    """Whatever this package raises, but for the `OSError` of a socket that can't be opened, and `ValueError` and `TypeError` of
+    arguments. It can be pickled."""
 
 
 class Refused(ServiceError):
     """The driver refused a request, and the connection goes on.
 
-    `code` is the number of the reason, and `text` the reason in the driver's words.
+    `code` is the reason as a `Code`, or its number where there is none, and `text` the reason in the driver's words.
     """
 
     def __init__(self, code: int, text: str) -> None:
         super().__init__(text)
         self.code = code
         self.text = text
+
+    def __reduce__(self) -> tuple[Any, ...]:
+        return type(self), (self.code, self.text)
 
     @property
     def may_pass(self) -> bool:
@@ -35,7 +41,7 @@ class Denied(Refused):
 
     def __init__(self, code: int, text: str) -> None:
         super().__init__(code, text)
-        found = re.fullmatch(r"denied by (?:rule ([0-9]+)|default) in policy ([0-9]+)", text)
+        found = re.match(r"denied by (?:rule ([0-9]+)|default) in policy ([0-9]+)", text)
         self.rule: Optional[int] = int(found[1]) if found and found[1] else None
         self.policy: Optional[int] = int(found[2]) if found else None
 
@@ -48,8 +54,32 @@ class BackPressure(Refused):
     """The slowest reader has too much left to read."""
 
 
+class OfferAgain(Refused):
+    """The rest of a term was too short for the message, and is filled."""
+
+
 class Closed(Refused):
     """There is no such registration of this client, or its log is closed."""
+
+
+class MaxPosition(Refused):
+    """The log is full for good."""
+
+
+class Skipped(Refused):
+    """A message before this one was refused."""
+
+
+class InvalidChannel(Refused):
+    """The text is no channel, or none that serves for this."""
+
+
+class Unknown(Refused):
+    """There is no such subscription, publication or counter of this client."""
+
+
+class Malformed(Refused):
+    """The driver does not know the request."""
 
 
 class TooLong(Refused):
@@ -64,12 +94,36 @@ class Full(Refused):
     """The driver has no place for one more."""
 
 
+class ClientGone(Refused):
+    """The driver let this client go."""
+
+
 class Conflict(Refused):
     """The channel contradicts the publication that it would join."""
 
 
+class NoRoom(Refused):
+    """The driver's memory for logs has no place for one more."""
+
+
+class NoLook(Refused):
+    """The driver could not look right now."""
+
+
+class QueueFull(Refused):
+    """Too many commands wait in the driver."""
+
+
+class NotOperator(Refused):
+    """Only an operator may ask for that."""
+
+
 class Bound(Refused):
     """The principal's clients have as many publications, pages for their logs, subscriptions or counters as they may."""
+
+
+class UsedCorrelation(Refused):
+    """The command has the number of an earlier one."""
 
 
 class Ended(ServiceError):
@@ -84,38 +138,51 @@ class Ended(ServiceError):
         self.code = code
         self.text = text
 
+    def __reduce__(self) -> tuple[Any, ...]:
+        return type(self), (self.text, self.code)
+
 
 class ProtocolError(Ended):
     """What came is not what this version of the protocol has; the connection was closed."""
 
 
 class NoReply(ServiceError, TimeoutError):
-    """A command was not answered in time. It may be granted all the same; closing the connection takes it back."""
+    """A command was not answered in time. What it adds is taken back where it is granted all the same."""
 
 
 _KINDS: dict[int, type[Refused]] = {
-    -1: NoSubscriber,
-    -2: BackPressure,
-    -4: Closed,
-    8: TooLong,
-    1001: Denied,
-    1002: NoMemory,
-    1003: Full,
-    1005: Conflict,
-    1011: Bound,
-    1012: Bound,
-    1013: Bound,
-    1014: Bound,
+    Code.NO_SUBSCRIBER: NoSubscriber,
+    Code.BACK_PRESSURE: BackPressure,
+    Code.OFFER_AGAIN: OfferAgain,
+    Code.CLOSED: Closed,
+    Code.MAX_POSITION: MaxPosition,
+    Code.SKIPPED: Skipped,
+    Code.INVALID_CHANNEL: InvalidChannel,
+    Code.UNKNOWN_SUBSCRIPTION: Unknown,
+    Code.UNKNOWN_PUBLICATION: Unknown,
+    Code.UNKNOWN_COUNTER: Unknown,
+    Code.UNKNOWN_REQUEST: Malformed,
+    Code.MALFORMED_REQUEST: Malformed,
+    Code.TOO_LONG: TooLong,
+    Code.DENIED: Denied,
+    Code.NO_MEMORY: NoMemory,
+    Code.FULL: Full,
+    Code.CLIENT_GONE: ClientGone,
+    Code.CONFLICT: Conflict,
+    Code.NO_ROOM: NoRoom,
+    Code.NO_LOOK: NoLook,
+    Code.QUEUE_FULL: QueueFull,
+    Code.NOT_OPERATOR: NotOperator,
+    Code.BOUND_PUBLICATIONS: Bound,
+    Code.BOUND_PAGES: Bound,
+    Code.BOUND_SUBSCRIPTIONS: Bound,
+    Code.BOUND_COUNTERS: Bound,
+    Code.USED_CORRELATION: UsedCorrelation,
 }
 
-SKIPPED = -6
-CLOSED = -4
-NO_LOOK = 1007
-
-# back pressure, no subscriber, offer again, no look, queue full
-MAY_PASS = frozenset((-1, -2, -3, NO_LOOK, 1008))
+MAY_PASS = frozenset((Code.NO_SUBSCRIBER, Code.BACK_PRESSURE, Code.OFFER_AGAIN, Code.NO_LOOK, Code.QUEUE_FULL))
 
 
 def refusal(code: int, text: str) -> Refused:
     """The exception for a code, with the reason in words."""
-    return _KINDS.get(code, Refused)(code, text)
+    return _KINDS.get(code, Refused)(named(code), text)

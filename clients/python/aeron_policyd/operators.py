@@ -6,7 +6,8 @@ import os
 from typing import Union
 
 from aeron_policyd import records
-from aeron_policyd.errors import ProtocolError, refusal
+from aeron_policyd.codes import Code
+from aeron_policyd.errors import ProtocolError, Refused, refusal
 from aeron_policyd.wire import Wire
 
 _Path = Union[str, "os.PathLike[str]"]
@@ -15,7 +16,7 @@ _Path = Union[str, "os.PathLike[str]"]
 def _order(path: _Path, kind: int, timeout: float) -> list[str]:
     """Asks once, and gives the lines of the answer."""
     wire = Wire(path, timeout)
-    lines = []
+    lines: list[str] = []
     try:
         wire.send(records.bare(kind))
         while True:
@@ -23,7 +24,10 @@ def _order(path: _Path, kind: int, timeout: float) -> list[str]:
             if answer == records.DONE:
                 return lines
             if answer == records.REFUSED and len(body) >= 4:
-                raise refusal(records.CODE.unpack_from(body)[0], body[4:].decode("ascii", "replace"))
+                (code,) = records.CODE.unpack_from(body)
+                text = body[4:].decode("ascii", "replace")
+                # 1 is a fault of the policy here
+                raise Refused(code, text) if code == Code.INVALID_CHANNEL else refusal(code, text)
             if answer != records.LINE:
                 raise ProtocolError("no line")
             lines.append(body.decode("ascii", "replace"))

@@ -2,13 +2,16 @@
 
 from __future__ import annotations
 
+import functools
+import math
 import struct
 from typing import Sequence
 
 VERSION = 1
 
-# How long a record is at most, without its length.
+# How long a record is at most, without its length; and the message of an OFFER.
 LONGEST = 16_777_280
+LONGEST_MESSAGE = LONGEST - 20
 
 # Requests.
 COMMAND, OFFER, POLL, MAIL, LIST, VALUE, STOP, RELOAD, STATUS, POLL_ALL = range(1, 11)
@@ -23,6 +26,10 @@ PAIRS = 64
 
 # Flags of the first and of the last fragment of a message.
 BEGIN, END = 0x80, 0x40
+WHOLE = BEGIN | END
+
+# Every term is as long as that, or a multiple of it: where a stretch that is filled ends.
+LEAST_TERM = 65_536
 
 # Flags of the positions of a publication: whether anybody takes what is offered, and whether a receiver is heard.
 CONNECTED, HEARD = 1, 2
@@ -41,6 +48,9 @@ POSITION = struct.Struct("<Q")
 CODE = struct.Struct("<i")
 PLACE = struct.Struct("<I")
 FRAGMENT_FIELDS = struct.Struct("<QI")
+FRAGMENT_RECORD = struct.Struct("<IIQI")
+# The length and the kind of TAKEN, as one number.
+TAKEN_HEAD = TAKEN << 32 | 12
 ROW_FIELDS = struct.Struct("<Qiq")
 SIGNED = struct.Struct("<q")
 PUBLICATION_FIELDS = struct.Struct("<QQQQI")
@@ -88,6 +98,17 @@ def image_positions(subscription: int, source: int) -> bytes:
     return _IMAGE.pack(20, IMAGE_POSITIONS, subscription, source)
 
 
+@functools.lru_cache(maxsize=64)
+def fragments(size: int) -> struct.Struct:
+    """FRAGMENT with a payload of so many bytes: its length, kind, position, flags and payload."""
+    return struct.Struct("<IIQI%ds" % size)
+
+
+def places(size: int) -> int:
+    """How many positions a fragment of so many bytes takes."""
+    return (32 + size + 31) & ~31
+
+
 def milliseconds(seconds: float) -> int:
     """A wait as requests have it: whole milliseconds, a second at most."""
-    return max(0, min(1000, int(seconds * 1000)))
+    return 1000 if seconds >= 1.0 else math.ceil(seconds * 1000)

@@ -1,0 +1,1 @@
+aeron_policyd stop --driver /run/aeron_policyd/operator.sock

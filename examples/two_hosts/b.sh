@@ -1,0 +1,1 @@
+aeron_policyd serve --policy b.toml --folder /run/aeron_policyd --door p2
