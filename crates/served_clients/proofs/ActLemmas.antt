@@ -17,6 +17,7 @@ use Rattle.reading_progress.specs.Watches.{Watching}
 use Rattle.reading_progress.specs.declared.pairs.Pair.{Pair}
 use Rattle.service_records.specs.Request.{request_of}
 use Rattle.service_streams.specs.Acting.{Acts, ActsOn}
+use Rattle.served_clients.specs.Denying.{Hears}
 use Rattle.served_clients.specs.Watching.{after_looking}
 use Rattle.served_clients.specs.Acts.{Admits, Follows, IsAct, IsTended, LooksAt, NextReply, Says, Serving, Sitting, Stays, TakesReply, Tends, sitting}
 
@@ -132,28 +133,28 @@ next_one old new mail next =
 reply_one : (old new : Sitting) (written : List ℕ) (told : Result Bool Refusal) → TakesReply old new written told → new.client.number ≡ old.client.number
 reply_one old new written told act = ap (λ (a : Attached). a.number) act.looks.new_is ∙ next_one old act.between act.mail act.taken
 
-act_one : {K : Type 0} (home : Home) (admits : Admits K) (old : Serving K) (call : Call) (new : Serving K) → IsAct home admits old call new → new.0.client.number ≡ old.0.client.number
-act_one home admits old Stay new act = stays_one old.0 new.0 act
-act_one home admits old (Command bytes None) new act = ap (λ (a : Attached). a.number) act.0.1.new_is
-act_one home admits old (Command bytes (Some refusal)) new act = ap (λ (a : Attached). a.number) act.0.0.new_is
-act_one home admits old (Offer registration message told) new act = ap (λ (a : Attached). a.number) act.0.same
-act_one home admits old (Poll subscription source limit written told) new act = ap (λ (a : Attached). a.number) act.0.looks.new_is
-act_one home admits old (Mail written told) new act = reply_one old.0 new.0 written told act
-act_one home admits old (Look written told) new act = ap (λ (a : Attached). a.number) act.0.looks.new_is
-act_one home admits old (Value number told) new act = ap (λ (a : Attached). a.number) act.0.looks.new_is
-act_one home admits old (Publication registration told) new act = ap (λ (a : Attached). a.number) act.0.looks.new_is
-act_one home admits old (Image subscription source told) new act = ap (λ (a : Attached). a.number) act.0.looks.new_is
+act_one : {K : Type 0} (home : Home) (admits : Admits K) (hears : Hears K) (old : Serving K) (call : Call) (new : Serving K) → IsAct home admits hears old call new → new.0.client.number ≡ old.0.client.number
+act_one home admits hears old Stay new act = stays_one old.0 new.0 act
+act_one home admits hears old (Command bytes None) new act = ap (λ (a : Attached). a.number) act.0.1.new_is
+act_one home admits hears old (Command bytes (Some refusal)) new act = ap (λ (a : Attached). a.number) act.0.0.new_is
+act_one home admits hears old (Offer registration message told) new act = ap (λ (a : Attached). a.number) act.0.same
+act_one home admits hears old (Poll subscription source limit written told) new act = ap (λ (a : Attached). a.number) act.0.looks.new_is
+act_one home admits hears old (Mail written told) new act = reply_one old.0 new.0 written told act
+act_one home admits hears old (Look written told) new act = ap (λ (a : Attached). a.number) act.0.looks.new_is
+act_one home admits hears old (Value number told) new act = ap (λ (a : Attached). a.number) act.0.looks.new_is
+act_one home admits hears old (Publication registration told) new act = ap (λ (a : Attached). a.number) act.0.looks.new_is
+act_one home admits hears old (Image subscription source told) new act = ap (λ (a : Attached). a.number) act.0.looks.new_is
 
-run_one_client : {K : Type 0} (home : Home) (admits : Admits K) (old : Serving K) (calls : List Call) (new : Serving K) →
-    Run (IsAct home admits) old calls new → new.0.client.number ≡ old.0.client.number
-run_one_client {K} home admits old [] new run = ap (λ (a : Serving K). a.0.client.number) run
-run_one_client home admits old (call ∷ calls) new run = run_one_client home admits run.0 calls new run.2 ∙ act_one home admits old call run.0 run.1
+run_one_client : {K : Type 0} (home : Home) (admits : Admits K) (hears : Hears K) (old : Serving K) (calls : List Call) (new : Serving K) →
+    Run (IsAct home admits hears) old calls new → new.0.client.number ≡ old.0.client.number
+run_one_client {K} home admits hears old [] new run = ap (λ (a : Serving K). a.0.client.number) run
+run_one_client home admits hears old (call ∷ calls) new run = run_one_client home admits hears run.0 calls new run.2 ∙ act_one home admits hears old call run.0 run.1
 
-acts_on_one : {K : Type 0} (home : Home) (admits : Admits K) (records : List (List ℕ)) (old new : Serving K) →
-    ActsOn (IsAct home admits) records old new → new.0.client.number ≡ old.0.client.number
-acts_on_one {K} home admits [] old new run = ap (λ (a : Serving K). a.0.client.number) run
-acts_on_one home admits (bytes ∷ records) old new run =
-    acts_on_one home admits records run.0 new run.2 ∙ run_one_client home admits old run.1.calls run.0 run.1.run
+acts_on_one : {K : Type 0} (home : Home) (admits : Admits K) (hears : Hears K) (records : List (List ℕ)) (old new : Serving K) →
+    ActsOn (IsAct home admits hears) records old new → new.0.client.number ≡ old.0.client.number
+acts_on_one {K} home admits hears [] old new run = ap (λ (a : Serving K). a.0.client.number) run
+acts_on_one home admits hears (bytes ∷ records) old new run =
+    acts_on_one home admits hears records run.0 new run.2 ∙ run_one_client home admits hears old run.1.calls run.0 run.1.run
 
-pub acts_one : {K : Type 0} (home : Home) (admits : Admits K) (old new : Serving K) → Acts (IsAct home admits) old new → new.0.client.number ≡ old.0.client.number
-acts_one home admits old new a = acts_on_one home admits a.records old new a.run
+pub acts_one : {K : Type 0} (home : Home) (admits : Admits K) (hears : Hears K) (old new : Serving K) → Acts (IsAct home admits hears) old new → new.0.client.number ≡ old.0.client.number
+acts_one home admits hears old new a = acts_on_one home admits hears a.records old new a.run

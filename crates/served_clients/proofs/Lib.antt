@@ -1,2 +1,3 @@
 pub mod ActLemmas
+pub mod DenyLemmas
 pub mod TellLemmas

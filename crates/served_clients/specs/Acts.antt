@@ -26,6 +26,7 @@ use Rattle.media_driver.specs.declared.faults.PositionFault.{PositionFault}
 use Rattle.media_driver.specs.declared.faults.PushFault.{PushFault}
 use Rattle.media_driver.specs.declared.positions.ImagePositions.{ImagePositions as ReadPositions}
 use Rattle.published_registry.specs.Histories.{IsContinuedBy, registry_of}
+use Rattle.served_clients.specs.Denying.{Heard, Hears, denied_look, denied_offer, denied_poll}
 use Rattle.served_clients.specs.Given.{given_of}
 use Rattle.served_clients.specs.Positions.{TellsImage, TellsPublication}
 use Rattle.reading_progress.specs.Pairs.{pair_at}
@@ -111,8 +112,9 @@ HandsBytes admits old new bytes None = Goes admits old new bytes
 HandsBytes admits old new bytes (Some refusal) =
     PushesNone old.0 new.0 × ((refusal ≡ Because NoMemory) ⊎ (IsHeldBack admits old bytes refusal ⊎ IsPushedBack admits old new bytes refusal))
 
--- the client offers a message, by its own registration, under the registry that it sees
-pub record OffersBy (home : Home) (old new : Attached) (registration : ℕ) (message : List ℕ) (told : Result ℕ Refusal) : Type 0 where
+-- the client offers a message, by its own registration, under the registry that it sees; of a denial those hear who share something
+-- with others
+pub record OffersBy {K : Type 0} (home : Home) (hears : Hears K) (old new : Attached) (keeper : K) (registration : ℕ) (message : List ℕ) (told : Result ℕ Refusal) : Type 0 where
   pub gave : Result ℕ OfferFault
   pub known : IsContinuedBy old.known new.known
   pub moment : old.moment ≤ new.moment
@@ -120,14 +122,16 @@ pub record OffersBy (home : Home) (old new : Attached) (registration : ℕ) (mes
   pub counted : Counts gave old new
   pub step : IsOffer home (registry_of new.known) new.moment old.number registration message gave
   pub audit : ReportsOffer home new.known new.moment old.number registration message gave old.audited new.audited
+  pub heard : Heard hears (denied_offer gave new.audited.items) keeper
   pub told_is : TellsOffer gave told
 
--- it polls a log, by its own subscription; what is written are the fragments that it was given
-pub record PollsBy (home : Home) (old new : Attached) (subscription source limit : ℕ) (written : List ℕ) (told : Result ℕ Refusal) : Type 0 where
+-- it polls a log, by its own subscription; what is written are the fragments that it was given; of a denial they hear, too
+pub record PollsBy {K : Type 0} (home : Home) (hears : Hears K) (old new : Attached) (keeper : K) (subscription source limit : ℕ) (written : List ℕ) (told : Result ℕ Refusal) : Type 0 where
   pub gave : Result (List Fetched) PollFault
   pub looks : Consults old new
   pub step : IsPoll home (registry_of new.known) old.number subscription source limit gave
   pub audit : ReportsPoll home new.known old.number subscription source limit gave old.audited new.audited
+  pub heard : Heard hears (denied_poll gave new.audited.items) keeper
   pub told_is : TellsPoll gave written told
 
 -- the next reply is the first of those that are kept; where none is, it is taken out of the ring
@@ -154,12 +158,13 @@ pub record ListsBy (old new : Attached) (written : List ℕ) (told : Result ℕ 
   pub audit : ReportsList new.known old.number gave old.audited new.audited
   pub told_is : TellsList gave written told
 
--- it looks at the value of a counter
-pub record ValuesBy (old new : Attached) (number : ℕ) (told : Result ℤ Refusal) : Type 0 where
+-- it looks at the value of a counter; of a denial they hear, too
+pub record ValuesBy {K : Type 0} (hears : Hears K) (old new : Attached) (keeper : K) (number : ℕ) (told : Result ℤ Refusal) : Type 0 where
   pub gave : Result Shown LookFault
   pub looks : Consults old new
   pub shown : IfOk gave (λ shown. shown ≡ value (registry_of new.known) old.number number)
   pub audit : ReportsValue new.known gave old.audited new.audited
+  pub heard : Heard hears (denied_look gave) keeper
   pub told_is : TellsValue gave told
 
 -- it is shown how far its own publication has come
@@ -188,14 +193,14 @@ abbrev pub Keeps : {K : Type 0} → Serving K → Serving K → Type 0 → Type 
 Keeps old new act = act × (new.0.kept ≡ old.0.kept)
 
 -- A client, with what it shares with others, before and after a call of its connection.
-abbrev pub IsAct : {K : Type 0} → Home → Admits K → Serving K → Call → Serving K → Type 0
-IsAct home admits old Stay new = Stays old.0 new.0
-IsAct home admits old (Command bytes refusal) new = Keeps old new (HandsBytes admits (sharing old) (sharing new) bytes refusal)
-IsAct home admits old (Offer registration message told) new = Keeps old new (OffersBy home old.0.client new.0.client registration message told)
-IsAct home admits old (Poll subscription source limit written told) new =
-    Keeps old new (PollsBy home old.0.client new.0.client subscription source limit written told)
-IsAct home admits old (Mail written told) new = TakesReply old.0 new.0 written told
-IsAct home admits old (Look written told) new = Keeps old new (ListsBy old.0.client new.0.client written told)
-IsAct home admits old (Value number told) new = Keeps old new (ValuesBy old.0.client new.0.client number told)
-IsAct home admits old (Publication registration told) new = Keeps old new (PublicationBy home old.0.client new.0.client registration told)
-IsAct home admits old (Image subscription source told) new = Keeps old new (ImageBy home old.0.client new.0.client subscription source told)
+abbrev pub IsAct : {K : Type 0} → Home → Admits K → Hears K → Serving K → Call → Serving K → Type 0
+IsAct home admits hears old Stay new = Stays old.0 new.0
+IsAct home admits hears old (Command bytes refusal) new = Keeps old new (HandsBytes admits (sharing old) (sharing new) bytes refusal)
+IsAct home admits hears old (Offer registration message told) new = Keeps old new (OffersBy home hears old.0.client new.0.client new.1 registration message told)
+IsAct home admits hears old (Poll subscription source limit written told) new =
+    Keeps old new (PollsBy home hears old.0.client new.0.client new.1 subscription source limit written told)
+IsAct home admits hears old (Mail written told) new = TakesReply old.0 new.0 written told
+IsAct home admits hears old (Look written told) new = Keeps old new (ListsBy old.0.client new.0.client written told)
+IsAct home admits hears old (Value number told) new = Keeps old new (ValuesBy hears old.0.client new.0.client new.1 number told)
+IsAct home admits hears old (Publication registration told) new = Keeps old new (PublicationBy home old.0.client new.0.client registration told)
+IsAct home admits hears old (Image subscription source told) new = Keeps old new (ImageBy home old.0.client new.0.client subscription source told)

@@ -2,4 +2,5 @@ pub mod Telling
 pub mod Positions
 pub mod Given
 pub mod Watching
+pub mod Denying
 pub mod Acts

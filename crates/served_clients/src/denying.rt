@@ -1,56 +1,55 @@
-//! What is denied to a client is told to its keeper.
+//! By which decision a call of a client was denied, if it was.
 
-use crate::habits::Habits;
-use crate::keeper::Keeper;
+ghost use Rattle.served_clients.specs.Denying.{denied_look, denied_offer, denied_poll, last_of};
+ghost use Rattle.std.specs.Prelude.{◌≡◌};
+
 use driver_core::Shown;
-use driver_service::Refusal;
-use media_driver::{Client, Clock, DriverNaming, LookFault, OfferFault};
+use log_steps::FragmentCopies;
+use media_driver::{Client, Clock, DriverNaming, LookFault, OfferFault, PollFault};
 use policy_core::Decision;
 
 /// What was decided last for a client.
-fn last_decision<N: DriverNaming, C: Clock>(client: &Client<N, C>) -> Option<Decision> {
+#[tactic(auto, using(crate::proofs::DenyLemmas::last_is))]
+fn last_decision<N: DriverNaming, C: Clock>(client: &Client<N, C>) -> Option<Decision>
+    ensures { result ≡ last_of client.now.audited.items }
+{
     let mut kept = client.audit().items();
     let dated = kept.next_back()?;
     Some(dated.decision)
 }
 
-/// What was decided last for a client is a denial, or is none.
-fn tell<N: DriverNaming, C: Clock, K: Keeper + Drop>(
+/// That of an offer which gave that.
+pub(crate) fn denied_offer<N: DriverNaming, C: Clock>(
     client: &Client<N, C>,
-    habits: &mut Habits<K>,
-    is_denied: bool,
-) {
-    if !is_denied {
-        return;
-    }
-    if let Some(decision) = last_decision(client) {
-        habits.denied(&decision);
-    }
-}
-
-/// An offer gave that.
-pub(crate) fn tell_denied_offer<N: DriverNaming, C: Clock, K: Keeper + Drop>(
-    client: &Client<N, C>,
-    habits: &mut Habits<K>,
     gave: &Result<u64, OfferFault>,
-) {
-    tell(client, habits, matches!(gave, Err(OfferFault::Denied(_))));
+) -> Option<Decision>
+    ensures { result ≡ denied_offer gave.now client.now.audited.items }
+{
+    match gave {
+        Err(OfferFault::Denied(_)) => last_decision(client),
+        _ => None,
+    }
 }
 
-/// A poll was answered by that.
-pub(crate) fn tell_denied_poll<N: DriverNaming, C: Clock, K: Keeper + Drop>(
+/// That of a poll which gave that.
+pub(crate) fn denied_poll<N: DriverNaming, C: Clock>(
     client: &Client<N, C>,
-    habits: &mut Habits<K>,
-    told: &Result<u32, Refusal>,
-) {
-    tell(client, habits, matches!(told, Err(Refusal::Denied(_))));
+    gave: &Result<FragmentCopies, PollFault>,
+) -> Option<Decision>
+    ensures { result ≡ denied_poll gave.now client.now.audited.items }
+{
+    match gave {
+        Err(PollFault::Denied(_)) => last_decision(client),
+        _ => None,
+    }
 }
 
-/// A look at a counter gave that.
-pub(crate) fn tell_denied_look<N: DriverNaming, C: Clock, K: Keeper + Drop>(
-    client: &Client<N, C>,
-    habits: &mut Habits<K>,
-    gave: &Result<Shown, LookFault>,
-) {
-    tell(client, habits, matches!(gave, Ok(Shown::Denied(_))));
+/// That of a look at a counter which gave that.
+pub(crate) fn denied_look(gave: &Result<Shown, LookFault>) -> Option<Decision>
+    ensures { result ≡ denied_look gave.now }
+{
+    match gave {
+        Ok(Shown::Denied(decision)) => Some(*decision),
+        _ => None,
+    }
 }

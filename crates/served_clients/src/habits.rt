@@ -2,6 +2,7 @@
 
 ghost use Rattle.reading_progress.specs.Pairs.{pair_at};
 ghost use Rattle.reading_progress.specs.Watches.{after_all, is_left_behind, new_watch};
+ghost use Rattle.served_clients.specs.Denying.{IsTold};
 ghost use Rattle.served_clients.specs.Given.{is_subscribing};
 ghost use Rattle.served_clients.specs.Watching.{IsNoted, after_handing, after_looking, gone_after, is_there};
 ghost use Rattle.std.specs.Prelude.{◌≡◌};
@@ -73,7 +74,8 @@ impl<K: Keeper + Drop> Habits<K> {
 
     /// A request is answered next, once others had their part.
     pub(crate) fn give_way(&mut self)
-        ensures { self.new.watch ≡ self.old.watch }
+        ensures watch { self.new.watch ≡ self.old.watch }
+        ensures gone { self.new.gone ≡ self.old.gone }
     {
         self.keeper.give_way();
     }
@@ -179,11 +181,15 @@ impl<K: Keeper + Drop> Habits<K> {
         self.gone = Some(Reason::Stopped);
     }
 
-    /// That was denied to the client.
-    pub(crate) fn denied(&mut self, decision: &Decision)
-        ensures { self.new.watch ≡ self.old.watch }
+    /// By that something was denied to the client, or nothing was.
+    pub(crate) fn denied(&mut self, denial: Option<Decision>)
+        ensures told { IsTold K.hears self.old.keeper denial self.new.keeper }
+        ensures watch { self.new.watch ≡ self.old.watch }
+        ensures gone { self.new.gone ≡ self.old.gone }
     {
-        self.keeper.denied(decision);
+        if let Some(decision) = denial {
+            self.keeper.denied(&decision);
+        }
     }
 
     /// A message went into a log, or none did.

@@ -1,6 +1,7 @@
 //! What a connection's client shares with other clients.
 
 ghost use Rattle.driver_service.specs.declared.reason.Reason.{Reason};
+ghost use Rattle.policy_core.specs.declared.decision.Decision.{Decision};
 ghost use Rattle.served_clients.specs.declared.given.Given.{Given};
 ghost use Rattle.std.specs.Prelude.{ℕ, Result};
 
@@ -13,6 +14,9 @@ use policy_core::Decision;
 pub trait Keeper {
     /// What it says of a command of that client, and what it is then.
     ghost admits: { Self → ℕ → Given → Result Unit Reason → Self → Type 0 };
+
+    /// What it is once it heard of a denial.
+    ghost hears: { Self → Decision → Self → Type 0 } = { λ old decision new. Unit {0} };
 
     /// Whether that may go to the driver as a command of that client. What it adds counts from then on.
     ///
@@ -28,7 +32,8 @@ pub trait Keeper {
     fn note(&mut self, client: u64, reply: &ClientReply);
 
     /// That was denied to the client: to offer, to poll or to see a counter.
-    fn denied(&mut self, decision: &Decision);
+    fn denied(&mut self, decision: &Decision)
+        ensures { hears self.old decision.now self.new };
 
     /// Messages went into a log, or were read there: whoever waits for that may go on.
     fn stir(&mut self);

@@ -8,7 +8,7 @@ ghost use Rattle.served_clients.specs.Acts.{LooksAt, NextReply, Says, Tends, sit
 ghost use Rattle.std.specs.Prelude.{◌≡◌, ◌<◌, ◌++◌, [], ◌∷◌, IfNone, IfSome, None, true};
 ghost use Rattle.std.specs.VecDeque.{deque_capacity, deque_len};
 
-use crate::denying::{tell_denied_look, tell_denied_offer, tell_denied_poll};
+use crate::denying::{denied_look, denied_offer, denied_poll};
 use crate::given::Given;
 use crate::habits::Habits;
 use crate::keeper::Keeper;
@@ -266,7 +266,7 @@ impl<N: DriverNaming, C: Clock, R: Wait + Drop, K: Keeper + Drop> Served<N, C, R
 impl<N: DriverNaming, C: Clock, R: Wait + Drop, K: Keeper + Drop> Seat for Served<N, C, R, K> {
     ghost use Rattle.served_clients.specs.Acts.{IsAct, sitting};
 
-    ghost does = { λ old call new. IsAct N.home K.admits (sitting old.client old.kept.items, old.habits.keeper) call (sitting new.client new.kept.items, new.habits.keeper) };
+    ghost does = { λ old call new. IsAct N.home K.admits K.hears (sitting old.client old.kept.items, old.habits.keeper) call (sitting new.client new.kept.items, new.habits.keeper) };
 
     #[tactic(auto, using(crate::proofs::ActLemmas::stays_so))]
     fn stay(&mut self) {
@@ -299,7 +299,7 @@ impl<N: DriverNaming, C: Clock, R: Wait + Drop, K: Keeper + Drop> Seat for Serve
     fn offer(&mut self, registration: u64, message: &[u8]) -> Result<u64, Refusal> {
         let gave = self.client.offer(&self.rt, registration, message);
         self.habits.stir(gave.is_ok());
-        tell_denied_offer(&self.client, &mut self.habits, &gave);
+        self.habits.denied(denied_offer(&self.client, &gave));
         tell_offer(self.alloc, gave)
     }
 
@@ -311,9 +311,10 @@ impl<N: DriverNaming, C: Clock, R: Wait + Drop, K: Keeper + Drop> Seat for Serve
         out: &mut Vec<u8>,
     ) -> Result<u32, Refusal> {
         let gave = self.client.poll(&self.rt, subscription, source, limit);
+        let denial = denied_poll(&self.client, &gave);
         let told = tell_poll(self.alloc, gave, &mut self.scratch, out);
         self.habits.polled(&told);
-        tell_denied_poll(&self.client, &mut self.habits, &told);
+        self.habits.denied(denial);
         told
     }
 
@@ -330,7 +331,7 @@ impl<N: DriverNaming, C: Clock, R: Wait + Drop, K: Keeper + Drop> Seat for Serve
 
     fn value(&mut self, number: u64) -> Result<i64, Refusal> {
         let gave = self.client.counter_value(number);
-        tell_denied_look(&self.client, &mut self.habits, &gave);
+        self.habits.denied(denied_look(&gave));
         tell_value(self.alloc, &gave)
     }
 

@@ -31,7 +31,7 @@ where
     Q: std::time::Clock + Wait,
     P: Pauses + LongRecords,
     T: Read + Write,
-    ensures acts { Acts (IsAct N.home K.admits) (sitting connection.old.seat.client connection.old.seat.kept.items, connection.old.seat.habits.keeper) (sitting connection.new.seat.client connection.new.seat.kept.items, connection.new.seat.habits.keeper) }
+    ensures acts { Acts (IsAct N.home K.admits K.hears) (sitting connection.old.seat.client connection.old.seat.kept.items, connection.old.seat.habits.keeper) (sitting connection.new.seat.client connection.new.seat.kept.items, connection.new.seat.habits.keeper) }
     ensures one { connection.new.seat.client.number ≡ connection.old.seat.client.number }
 {
     talk(rt, alloc, stream, pauses, connection, greeting)

@@ -1,4 +1,5 @@
 use Rattle.std.proofs.Common.{refl}
+use Rattle.served_clients.proofs.DenyLemmas.{heard_of}
 use Rattle.served_clients.proofs.TellLemmas.{no_fragments}
 use Rattle.served_clients.proofs.served.ServedSeat.poll.Goals as goal
 
@@ -9,7 +10,17 @@ returns g c =
       bytes = w.bytes;
       appended = w.appended;
       holds = (
-        (record { gave = c.poll-gave.result; looks = c.poll-gave.ensures.looks; step = c.poll-gave.ensures.step; audit = c.poll-gave.ensures.audit; told_is = w.holds }, refl),
+        (
+          record {
+            gave = c.poll-gave.result;
+            looks = c.poll-gave.ensures.looks;
+            step = c.poll-gave.ensures.step;
+            audit = c.poll-gave.ensures.audit;
+            heard = heard_of g.K.Keeper.hears _ _ _ _ c.denied_poll-denial.ensures c.denied.ensures.told;
+            told_is = w.holds;
+          },
+          refl,
+        ),
         no_fragments c.poll-gave.result w.bytes c.tell_poll-told.result w.holds,
       );
     }
