@@ -4,6 +4,7 @@ ghost use Rattle.policy_query.specs.Document.{policy_in};
 ghost use Rattle.std.specs.Prelude.{◌≡◌, ◌<◌, IfOk, is_ok, is_some, length, not};
 
 use byte_strings::Text;
+use plain_words::plain;
 use policy_faults::{Fault, Place, faults_of};
 use policy_query::Document;
 use policy_text::PolicyFault;
@@ -35,26 +36,14 @@ impl Origin<'_> {
     }
 }
 
-/// Appends a text, in which a control character stands by its code, so that it stays on one line.
-fn push_plain(text: &mut String, words: &str) -> Result<(), AllocError> {
-    for letter in words.chars() {
-        if letter < ' ' || letter == '\u{7f}' {
-            let code = letter as u32;
-            write!(text, "<{code}>")?;
-        } else {
-            text.push(letter)?;
-        }
-    }
-    Ok(())
-}
-
 /// The first of these faults in words, and whether there are more.
 fn said(alloc: Global, faults: &[Fault], origin: Origin<'_>) -> Result<Text, AllocError> {
     let mut text = String::new(alloc);
     if let Some(fault) = faults.first() {
         origin.push_place(&mut text, fault.place)?;
         text.push_str(": ")?;
-        push_plain(&mut text, format!(in alloc; "{fault}")?.as_str())?;
+        let words = plain(alloc, format!(in alloc; "{fault}")?.as_str())?;
+        text.push_str(words.as_str())?;
     }
     if faults.len() > 1 {
         origin.push_more(&mut text)?;

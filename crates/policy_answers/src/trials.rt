@@ -15,6 +15,7 @@ ghost use Rattle.std.specs.Prelude.{◌≡◌, IfErr, IfOk, Ok, false, is_ok, tr
 use crate::answer::Answer;
 use crate::fault::AskFault;
 use byte_strings::Text;
+use plain_words::plain;
 use policy_core::Policy;
 use policy_diff::{Row, are_apart, diff_text, differences};
 use policy_lint::lint;
@@ -53,7 +54,8 @@ pub fn find_faults(
 fn failures_text(alloc: Global, failures: &[Failure]) -> Result<String, AllocError> {
     let mut text = String::new(alloc);
     for failure in failures {
-        text.push_str(failure.to_string(alloc)?.as_str())?;
+        let line = plain(alloc, failure.to_string(alloc)?.as_str())?;
+        text.push_str(line.as_str())?;
         text.push_str("\n")?;
     }
     Ok(text)

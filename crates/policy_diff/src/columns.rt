@@ -6,10 +6,9 @@ use crate::requests::Written;
 use crate::scope::Asker;
 use byte_strings::Text;
 use channel_uri::Media;
+use plain_words::plain;
 use policy_core::Principals;
-use policy_tools::{
-    Directory, Relation, WrittenPolicy, patterns_pass, plain, principals_text, word_of,
-};
+use policy_tools::{Directory, Relation, WrittenPolicy, patterns_pass, principals_text, word_of};
 use std::alloc::{AllocError, Global};
 
 /// The channels that both patterns may cover: the text of the one that the other covers, or both texts.

@@ -15,6 +15,7 @@ use crate::unmet::{Unmet, unmet_in};
 use crate::warning::Warning;
 use crate::warnings::warnings_of;
 use byte_strings::Text;
+use plain_words::plain;
 use policy_faults::{Fault, faults_of, places_in};
 use policy_query::Document;
 use policy_text::PolicyFault;
@@ -143,22 +144,35 @@ fn counted(alloc: Global, count: usize, one: &str) -> Result<Text, AllocError> {
 }
 
 /// Appends a line for each fault.
-fn push_faults(text: &mut String, file: &str, faults: &[Fault]) -> Result<(), AllocError> {
+fn push_faults(
+    alloc: Global,
+    text: &mut String,
+    file: &str,
+    faults: &[Fault],
+) -> Result<(), AllocError> {
     for fault in faults {
         let place = fault.place;
-        writeln!(text, "{file}:{place}: error: {fault}")?;
+        let words = plain(alloc, format!(in alloc; "{fault}")?.as_str())?;
+        writeln!(text, "{file}:{place}: error: {words}")?;
     }
     Ok(())
 }
 
 /// Appends a line for each note.
-fn push_notes(text: &mut String, file: &str, notes: &[Note]) -> Result<(), AllocError> {
+fn push_notes(
+    alloc: Global,
+    text: &mut String,
+    file: &str,
+    notes: &[Note],
+) -> Result<(), AllocError> {
     for note in notes {
-        let (place, rule, words) = (note.place, note.rule, &note.text);
+        let (place, rule) = (note.place, note.rule);
         write!(text, "{file}:{place}: warning: ")?;
         if let Some(name) = &note.name {
+            let name = plain(alloc, name.as_str())?;
             write!(text, "rule {rule} ({name}): ")?;
         }
+        let words = plain(alloc, note.text.as_str())?;
         writeln!(text, "{words}")?;
     }
     Ok(())
@@ -216,8 +230,8 @@ impl Report {
     pub fn text(&self, alloc: Global, file: &str) -> Result<Text, AllocError> {
         let notes = self.notes(alloc)?;
         let mut text = String::new(alloc);
-        push_faults(&mut text, file, self.faults.as_slice())?;
-        push_notes(&mut text, file, notes.as_slice())?;
+        push_faults(alloc, &mut text, file, self.faults.as_slice())?;
+        push_notes(alloc, &mut text, file, notes.as_slice())?;
         let faults = counted(alloc, self.faults_len(), "fault")?;
         let warnings = counted(alloc, notes.len(), "warning")?;
         writeln!(text, "{faults}, {warnings}")?;

@@ -4,10 +4,9 @@ use crate::scope::Asker;
 use crate::steps::Step;
 use byte_strings::Text;
 use channel_uri::{Media, Pattern};
+use plain_words::plain;
 use policy_core::Principals;
-use policy_tools::{
-    Directory, WrittenPolicy, acts_text, plain, principals_text, streams_text, word_of,
-};
+use policy_tools::{Directory, WrittenPolicy, acts_text, principals_text, streams_text, word_of};
 use std::alloc::{AllocError, Global};
 
 /// The name of an asker.

@@ -6,9 +6,9 @@ ghost use Rattle.policy_tools.specs.Directory.{AreNames, first_of, name_of};
 ghost use Rattle.std.specs.Prelude.{◌≡◌, ◌++◌, ◌∷◌, [], IfOk, IfSome, option_copied, true};
 
 use crate::wider::begins_with;
-use crate::words::plain;
 use byte_strings::Text;
 use door_names::is_name;
+use plain_words::plain;
 use policy_text::Names;
 use std::alloc::{AllocError, Global};
 use std::marker::Model;

@@ -34,5 +34,5 @@ pub use reasons::{Reason, explained, name_at, reasons_of};
 pub use sharing::{is_over, may_meet};
 pub use showing::show;
 pub use wider::{first_piece, key_of, pairs_in, value_wider};
-pub use words::{acts_text, moments_text, plain, principals_text, streams_text, word_of};
+pub use words::{acts_text, moments_text, principals_text, streams_text, word_of};
 pub use written_policy::WrittenPolicy;

@@ -3,10 +3,10 @@
 ghost use Rattle.std.specs.Prelude.{◌<◌, length};
 
 use crate::explaining::{ChannelMiss, Explanation, Miss, channel_miss};
-use crate::words::plain;
 use crate::written_policy::WrittenPolicy;
 use byte_strings::Text;
 use channel_uri::Channel;
+use plain_words::plain;
 use policy_core::{Act, Rule};
 use std::alloc::{AllocError, Global};
 

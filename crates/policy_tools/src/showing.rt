@@ -6,9 +6,10 @@ ghost use Rattle.std.specs.Prelude.{◌≡◌, ◌<◌, ◌∷◌, [], IfOk, len
 
 use crate::columns::{Line, in_columns};
 use crate::directory::Directory;
-use crate::words::{acts_text, moments_text, plain, principals_text, streams_text, word_of};
+use crate::words::{acts_text, moments_text, principals_text, streams_text, word_of};
 use crate::written_policy::WrittenPolicy;
 use byte_strings::Text;
+use plain_words::plain;
 use policy_core::Rule;
 use std::alloc::{AllocError, Global};
 

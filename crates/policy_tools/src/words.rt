@@ -6,22 +6,9 @@ ghost use Rattle.std.specs.Prelude.{IfOk};
 use crate::directory::Directory;
 use byte_strings::Text;
 use moment_words::date_text;
+use plain_words::plain;
 use policy_core::{Act, Acts, Principals};
 use std::alloc::{AllocError, Global};
-
-/// The text, with what is no printable ASCII written by its code point, so that it stays within its line.
-pub fn plain(alloc: Global, text: &str) -> Result<Text, AllocError> {
-    let mut made = String::new(alloc);
-    for letter in text.chars() {
-        if letter >= ' ' && letter <= '~' {
-            made.push(letter)?;
-        } else {
-            let code = letter as u32;
-            write!(made, "<{code}>")?;
-        }
-    }
-    Ok(Text::from(made))
-}
 
 /// The name of whom a rule speaks of, or `*` for everybody; a number that has no name is written after a `#`.
 pub fn principals_text(
