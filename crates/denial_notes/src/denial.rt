@@ -78,9 +78,10 @@ impl fmt::Display for Called<'_> {
 
 /// What decided: the rule of a number, with its name, or the default.
 #[derive(Clone, Copy)]
-struct Decider<'a> {
-    rule: Option<u32>,
-    name: &'a str,
+pub struct Decider<'a> {
+    pub rule: Option<u32>,
+    /// Empty where it is not known.
+    pub name: &'a str,
 }
 
 impl fmt::Display for Decider<'_> {

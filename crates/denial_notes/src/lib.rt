@@ -10,7 +10,7 @@ mod looks;
 mod notes;
 mod rule_names;
 
-pub use denial::{Again, Denial, Worded};
+pub use denial::{Again, Decider, Denial, Worded};
 pub use looks::{Fresh, Mark};
 pub use notes::{Note, Notes, Repeated};
 pub use rule_names::RuleNames;

@@ -184,6 +184,7 @@ IsAnswer does (requests.Value number) tail refusals later old new out after told
 IsAnswer does requests.Stop tail refusals later old new out after told = Refuses old new reasons.NotOperator out after told
 IsAnswer does requests.Reload tail refusals later old new out after told = Refuses old new reasons.NotOperator out after told
 IsAnswer does requests.Status tail refusals later old new out after told = Refuses old new reasons.NotOperator out after told
+IsAnswer does (requests.Decisions from choice) tail refusals later old new out after told = Refuses old new reasons.NotOperator out after told
 IsAnswer does (requests.PollAll limit wait) tail refusals later old new out after told = AnswersAll does limit (polled_pairs tail) old new out after told
 IsAnswer does (requests.PublicationPositions registration) tail refusals later old new out after told = Answers does (IsPublication registration) old new out after told
 IsAnswer does (requests.ImagePositions subscription source) tail refusals later old new out after told = Answers does (IsImage subscription source) old new out after told

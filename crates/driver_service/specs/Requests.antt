@@ -83,6 +83,7 @@ IsNamed (requests.Value number) tail call = IsValue number call
 IsNamed requests.Stop tail call = ⊥
 IsNamed requests.Reload tail call = ⊥
 IsNamed requests.Status tail call = ⊥
+IsNamed (requests.Decisions from choice) tail call = ⊥
 IsNamed (requests.PollAll limit wait) tail call = IsPollOf (fragments limit) (polled_pairs tail) call
 IsNamed (requests.PublicationPositions registration) tail call = IsPublication registration call
 IsNamed (requests.ImagePositions subscription source) tail call = IsImage subscription source call

@@ -334,6 +334,7 @@ impl<S: Seat> Connection<S> {
             Request::Stop => refuse(&Refusal::Because(Reason::NotOperator), out),
             Request::Reload => refuse(&Refusal::Because(Reason::NotOperator), out),
             Request::Status => refuse(&Refusal::Because(Reason::NotOperator), out),
+            Request::Decisions { .. } => refuse(&Refusal::Because(Reason::NotOperator), out),
             Request::PollAll { limit, wait } => {
                 answer_rounds(rt, pauses, &mut self.seat, tail, limit, wait, out)
             }

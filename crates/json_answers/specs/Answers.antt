@@ -52,6 +52,10 @@ tested_data failed passed = object (
     member (codes "failed") (list_data failed_data failed) (
     member (codes "passed") (number (unsigned passed)) no_members))
 
+-- how many decisions were passed over
+abbrev pub passed_data : ℕ → Data
+passed_data count = object (member (codes "passed_over") (number (unsigned count)) no_members)
+
 abbrev pub tabled_data : List Grant → Data
 tabled_data rows = object (member (codes "rows") (list_data grant_data rows) no_members)
 

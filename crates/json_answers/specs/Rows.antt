@@ -9,6 +9,7 @@ use Rattle.json_answers.specs.declared.rows.Finding.{Finding}
 use Rattle.json_answers.specs.declared.rows.Grant.{Grant}
 use Rattle.json_answers.specs.declared.rows.Miss.{Miss}
 use Rattle.json_answers.specs.declared.rows.Rule.{Rule}
+use Rattle.json_answers.specs.declared.rows.Taken.{Taken}
 
 abbrev pub text_or_null : Option (List ℕ) → Data
 text_or_null None = null
@@ -46,6 +47,18 @@ failed_data failed = object (
     member (codes "rule") (number_or_null failed.rule) (
     member (codes "stream") (number (of_integer failed.stream)) (
     member (codes "text") (string failed.text.now) no_members)))))))
+
+abbrev pub taken_data : Taken → Data
+taken_data taken = object (
+    member (codes "act") (string taken.act.now) (
+    member (codes "allow") (boolean taken.allow) (
+    member (codes "moment") (string taken.moment.now) (
+    member (codes "name") (text_or_null (option_copied taken.name)) (
+    member (codes "policy") (number (unsigned taken.policy)) (
+    member (codes "principal") (string taken.principal.now) (
+    member (codes "rule") (number_or_null taken.rule) (
+    member (codes "stream") (number (of_integer taken.stream)) (
+    member (codes "subject") (number (unsigned taken.subject)) no_members)))))))))
 
 abbrev pub rule_data : Rule → Data
 rule_data rule = object (

@@ -1,14 +1,16 @@
 //! The answers.
 
-ghost use Rattle.json_answers.specs.Answers.{checked_data, decided_data, differing_data, explained_data, linted_data, shown_data, tabled_data, tested_data};
+ghost use Rattle.json_answers.specs.Answers.{checked_data, decided_data, differing_data, explained_data, linted_data, passed_data, shown_data, tabled_data, tested_data};
 ghost use Rattle.json_answers.specs.Line.{IsLine};
-ghost use Rattle.json_answers.specs.Rows.{number_or_null, text_or_null};
+ghost use Rattle.json_answers.specs.Rows.{number_or_null, taken_data, text_or_null};
 ghost use Rattle.serde_json.specs.View.{view};
 ghost use Rattle.std.specs.Prelude.{◌≡◌, IfOk, option_copied};
 ghost use Rattle.std.specs.String.{string_bytes};
 
-use crate::line::{line_of, list_of};
-use crate::rows::{Change, Failed, Finding, Grant, Miss, Rule, number_or_null, text_or_null};
+use crate::line::{Shown, line_of, list_of};
+use crate::rows::{
+    Change, Failed, Finding, Grant, Miss, Rule, Taken, number_or_null, text_or_null,
+};
 use serde_json::{Value, json};
 use std::alloc::{AllocError, Global};
 
@@ -47,6 +49,26 @@ pub fn decided(
     ensures { IfOk result (λ line. IsLine (string_bytes line) (decided_data allow rule policy)) }
 {
     line_of(alloc, &decided_value(alloc, allow, rule, policy)?)
+}
+
+/// A decision of a driver that serves.
+pub fn taken(alloc: Global, taken: &Taken<'_>) -> Result<String, AllocError>
+    ensures { IfOk result (λ line. IsLine (string_bytes line) (taken_data taken.now)) }
+{
+    line_of(alloc, &taken.value(alloc)?)
+}
+
+fn passed_value(alloc: Global, count: u64) -> Result<Value, AllocError>
+    ensures { IfOk result (λ value. view value ≡ passed_data count) }
+{
+    json!(in alloc; {"passed_over": count})
+}
+
+/// How many decisions are not told, as they are not kept any more.
+pub fn passed_over(alloc: Global, count: u64) -> Result<String, AllocError>
+    ensures { IfOk result (λ line. IsLine (string_bytes line) (passed_data count)) }
+{
+    line_of(alloc, &passed_value(alloc, count)?)
 }
 
 fn explained_value(

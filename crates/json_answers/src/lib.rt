@@ -7,5 +7,7 @@ mod answers;
 mod line;
 mod rows;
 
-pub use answers::{checked, decided, differing, explained, linted, shown, tabled, tested};
-pub use rows::{Change, Failed, Finding, Grant, Miss, Rule};
+pub use answers::{
+    checked, decided, differing, explained, linted, passed_over, shown, tabled, taken, tested,
+};
+pub use rows::{Change, Failed, Finding, Grant, Miss, Rule, Taken};

@@ -1,6 +1,6 @@
 //! The parts of answers.
 
-ghost use Rattle.json_answers.specs.Rows.{change_data, failed_data, finding_data, grant_data, miss_data, number_or_null, rule_data, text_or_null, texts_data};
+ghost use Rattle.json_answers.specs.Rows.{change_data, failed_data, finding_data, grant_data, miss_data, number_or_null, rule_data, taken_data, text_or_null, texts_data};
 ghost use Rattle.serde_json.specs.View.{view};
 ghost use Rattle.std.specs.Prelude.{◌≡◌, IfOk, option_copied};
 
@@ -54,6 +54,28 @@ pub struct Failed<'a> {
     pub allow: bool,
     /// By which rule, counted from 1; `None` for the default.
     pub rule: Option<u64>,
+}
+
+/// A decision of a driver that serves.
+#[derive(Clone, Copy)]
+pub struct Taken<'a> {
+    /// When it was taken, as a date.
+    pub moment: &'a str,
+    /// Who asked,
+    pub principal: &'a str,
+    /// for which act,
+    pub act: &'a str,
+    /// on which stream,
+    pub stream: i32,
+    /// and about what, by its number; 0 where it has none.
+    pub subject: u64,
+    /// What the policy of that number decided.
+    pub allow: bool,
+    pub policy: u64,
+    /// By which rule, counted from 1; `None` for the default.
+    pub rule: Option<u64>,
+    /// The name of the rule, where it is known.
+    pub name: Option<&'a str>,
 }
 
 /// A rule of a policy.
@@ -229,6 +251,26 @@ impl Shown for Grant<'_> {
             "medium": self.medium,
             "principal": self.principal,
             "rule": self.rule
+        })
+    }
+}
+
+impl Shown for Taken<'_> {
+    ghost content = { taken_data };
+
+    fn value(&self, alloc: Global) -> Result<Value, AllocError> {
+        let name = text_or_null(alloc, self.name)?;
+        let rule = number_or_null(self.rule);
+        json!(in alloc; {
+            "act": self.act,
+            "allow": self.allow,
+            "moment": self.moment,
+            "name": name,
+            "policy": self.policy,
+            "principal": self.principal,
+            "rule": rule,
+            "stream": self.stream,
+            "subject": self.subject
         })
     }
 }

@@ -10,6 +10,7 @@ led : {R : Type 0} (doors : List Door) (place : ℕ) (door : Door) (event : Even
     place < length doors → door ≡ slice_index_or doors place door → ActsFor door event → LedBy doors event
 led doors place door (events.Enters entering told) less there acts = (place, door, less, there, acts)
 led doors place door (events.Asks operator) less there acts = tt
+led doors place door (events.Reads operator from choice) less there acts = tt
 led doors place door events.Due less there acts = tt
 led doors place door events.Quiet less there acts = tt
 led doors place door events.Stops less there acts = tt

@@ -10,8 +10,8 @@ use crate::bells::Bells;
 use crate::doors::Door;
 use crate::fault::DoorFault;
 use crate::guests::{CLIENTS, Guests, Holders};
-use crate::orders::tell_reload;
-use crate::serving::{Begun, Entering, Reloaded, Returned, Serving};
+use crate::orders::{Heard, tell_decided, tell_reload};
+use crate::serving::{Begun, Decided, Entering, Reloaded, Returned, Serving};
 use driver_service::Reason;
 use mio::unix::SourceFd;
 use mio::{Events, Interest, Poll, Token, Waker};
@@ -60,6 +60,8 @@ pub enum Event<R: Machine> {
     Enters(Entering<R>, UnixStream),
     /// An operator asks that the policy's file be read again: [`Hall::tell_reload`] tells them what came of it.
     Asks(UnixStream),
+    /// An operator asks what was decided, from a number on, and which of it: [`Hall::tell_decided`] tells them.
+    Reads(UnixStream, u64, u32),
     /// It is time to read the policy's file again.
     Due,
     /// Nobody waits, and nothing is due: [`Hall::rest`].
@@ -251,6 +253,11 @@ impl<'a, R: Machine> Hall<'a, R> {
         tell_reload(self.rt, operator, came);
     }
 
+    /// An operator who asked for it is told what was decided; without it, that there is no memory.
+    pub fn tell_decided(&self, operator: UnixStream, decided: Option<&Decided>) {
+        tell_decided(self.rt, operator, decided);
+    }
+
     /// Someone came in by a door. What there is to do then.
     fn meet(&mut self, door: &Door, stream: UnixStream) -> Option<Event<R>>
         ensures { IfSome result (λ event. ActsFor door.now event) }
@@ -261,7 +268,10 @@ impl<'a, R: Machine> Hall<'a, R> {
                 None => None,
             },
             None => match self.hear(stream) {
-                Some(operator) => Some(Event::Asks(operator)),
+                Some(Heard::Reload(operator)) => Some(Event::Asks(operator)),
+                Some(Heard::Decisions(operator, from, choice)) => {
+                    Some(Event::Reads(operator, from, choice))
+                }
                 None => None,
             },
         }

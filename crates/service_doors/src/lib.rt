@@ -24,5 +24,5 @@ pub use fault::{DoorFault, DoorRefusal, PlaceFault};
 pub use hall::{Event, Hall};
 pub use memory::DoorMemory;
 pub use places::{Owner, Place, Plan, mode_in, place_in};
-pub use serving::{AskedBounds, Begun, Entering, Reloaded, Returned, Serving};
+pub use serving::{AskedBounds, Begun, Decided, Entering, Reloaded, Returned, Serving};
 pub use share::{Share, Usual};

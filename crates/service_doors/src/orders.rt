@@ -6,7 +6,7 @@ ghost use Rattle.std.specs.Prelude.{◌≡◌, ◌++◌, OnOk};
 use crate::fault::DoorFault;
 use crate::guests::Guest;
 use crate::hall::Hall;
-use crate::serving::Reloaded;
+use crate::serving::{Decided, Reloaded};
 use driver_service::Reason;
 use program_parts::{Machine, SECOND, ticks};
 use service_records::{Answer, Request, first_record};
@@ -31,6 +31,15 @@ enum Asked {
     NotYet,
     For(Request),
     Nothing,
+}
+
+/// What an operator asks of whoever has the driver.
+#[derive(Drop)]
+pub(crate) enum Heard {
+    /// That the policy's file be read again.
+    Reload(UnixStream),
+    /// What was decided, from a number on, and which of it.
+    Decisions(UnixStream, u64, u32),
 }
 
 /// The stream of an operator, who has until a moment for all that comes and goes on it: nobody else comes in meanwhile.
@@ -125,9 +134,9 @@ fn request_of<T: Read>(alloc: Global, stream: &mut T) -> Option<Request> {
     None
 }
 
-/// Each line of a text is a record, and one closes them.
-fn tell_lines(text: &str, out: &mut Vec<u8>) -> Result<(), DoorFault> {
-    let mut count = 0u32;
+/// Each line of a text is a record behind so many others, and one closes them.
+fn tell_lines(before: u32, text: &str, out: &mut Vec<u8>) -> Result<(), DoorFault> {
+    let mut count = before;
     for line in text.lines() {
         Answer::Line.put(line.as_bytes(), out)?;
         count = count.saturating_add(1);
@@ -147,11 +156,18 @@ fn refuse(code: i32, text: &str, out: &mut Vec<u8>) -> Result<(), DoorFault>
 /// What came of reading the policy's file again, as records.
 fn put_reload(came: &Reloaded, out: &mut Vec<u8>) -> Result<(), DoorFault> {
     match came {
-        Reloaded::Same => tell_lines("", out),
-        Reloaded::InForce(text) => tell_lines(text.as_str(), out),
+        Reloaded::Same => tell_lines(0, "", out),
+        Reloaded::InForce(text) => tell_lines(0, text.as_str(), out),
         Reloaded::Refused(text) => refuse(1, text.as_str(), out),
         Reloaded::NoMemory => refuse(Reason::NoMemory.code(), Reason::NoMemory.text(), out),
     }
+}
+
+/// What was decided, as records: the number from which on later ones are asked for, and lines.
+fn put_decided(decided: &Decided, out: &mut Vec<u8>) -> Result<(), DoorFault> {
+    let value = decided.next.min(i64::MAX as u64) as i64;
+    Answer::Value { value }.put(&[], out)?;
+    tell_lines(1, decided.lines.as_str(), out)
 }
 
 /// Records go to an operator, or that there was no memory for them.
@@ -162,6 +178,18 @@ fn send<T: Write>(alloc: Global, stream: &mut T, put: Result<(), DoorFault>, out
         }
         Err(_) => dismiss(alloc, stream, Reason::NoMemory),
     }
+}
+
+/// An operator is told what was decided, or that there is no memory for it.
+pub(crate) fn tell_decided<R: Machine>(rt: R, stream: UnixStream, decided: Option<&Decided>) {
+    let alloc = rt.alloc();
+    let mut out = Vec::new(alloc);
+    let put = match decided {
+        Some(decided) => put_decided(decided, &mut out),
+        None => refuse(Reason::NoMemory.code(), Reason::NoMemory.text(), &mut out),
+    };
+    let mut stream = Hurried::new(rt, stream);
+    send(alloc, &mut stream, put, out.as_slice());
 }
 
 /// An operator is told what came of reading the policy's file again.
@@ -207,7 +235,7 @@ impl<R: Machine> Hall<'_, R> {
         match request {
             Request::Stop => {
                 self.stop = true;
-                tell_lines("", out)
+                tell_lines(0, "", out)
             }
             Request::Status => self.tell_guests(out),
             _ => {
@@ -217,14 +245,18 @@ impl<R: Machine> Hall<'_, R> {
         }
     }
 
-    /// An operator asks once, and is answered. One who asks that the policy's file be read again is answered later.
-    pub(crate) fn hear(&mut self, stream: UnixStream) -> Option<UnixStream> {
+    /// An operator asks once, and is answered. What whoever has the driver is asked is answered later.
+    pub(crate) fn hear(&mut self, stream: UnixStream) -> Option<Heard> {
         let alloc = self.rt.alloc();
         let mut stream = Hurried::new(self.rt, stream);
         match request_of(alloc, &mut stream) {
             Some(Request::Reload) => {
                 let Hurried { stream, .. } = stream;
-                return Some(stream);
+                return Some(Heard::Reload(stream));
+            }
+            Some(Request::Decisions { from, choice }) => {
+                let Hurried { stream, .. } = stream;
+                return Some(Heard::Decisions(stream, from, choice));
             }
             Some(request) => {
                 let mut out = Vec::new(alloc);

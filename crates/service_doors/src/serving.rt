@@ -98,6 +98,15 @@ pub struct Returned {
     pub ended: bool,
 }
 
+/// What was decided from a number on.
+#[derive(Drop)]
+pub struct Decided {
+    /// A line for each decision.
+    pub lines: String,
+    /// The number from which on later ones are asked for.
+    pub next: u64,
+}
+
 /// What came of reading the policy's file again.
 #[derive(Drop)]
 pub enum Reloaded {

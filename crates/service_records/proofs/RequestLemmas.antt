@@ -7,7 +7,7 @@ use Rattle.service_records.specs.declared.request.Request.{Request}
 use Rattle.service_records.specs.declared.request.Request.TheVariants as requests
 use Rattle.service_records.specs.Gives.{◌>>=◌}
 use Rattle.service_records.specs.Fields.{number_at, ended, paired, number_bytes, IsBytes}
-use Rattle.service_records.specs.Request.{command_in, offer_in, poll_in, mail_in, list_in, value_in, stop_in, reload_in, status_in, poll_all_in, publication_positions_in, image_positions_in, request_in, request_of, kind_number, fields_bytes, request_body, IsRequest, IsTail}
+use Rattle.service_records.specs.Request.{command_in, offer_in, poll_in, mail_in, list_in, value_in, stop_in, reload_in, status_in, poll_all_in, publication_positions_in, image_positions_in, decisions_in, request_in, request_of, kind_number, fields_bytes, request_body, IsRequest, IsTail}
 use Rattle.service_records.proofs.FieldLemmas.{bind_ok, step, ok_is, chosen, Takes-then, number_takes, number_again, ended_takes, paired_takes, paired_again}
 
 -- what was read after a kind is what was written, and can be written
@@ -242,6 +242,30 @@ image_positions_again subscription source fits =
     let regrouped : fields_bytes (requests.ImagePositions subscription source) ++ [] ≡ number_bytes 8 subscription ++ (number_bytes 8 source ++ []) = append_assoc (number_bytes 8 subscription) (number_bytes 8 source) ([]) in
     ap image_positions_in regrouped ∙ rw (number_again 8 subscription (number_bytes 8 source ++ []) fits.0, number_again 8 source ([]) fits.1) refl
 
+decisions_takes : (bytes : List ℕ) (x : Request × List ℕ) → IsBytes bytes → decisions_in bytes ≡ Ok x → Taken bytes 13 x
+unfolding kind_number fields_bytes
+decisions_takes bytes x fits e =
+    elim (bind_ok (number_at 8 bytes) (λ from. number_at 4 from.1 >>= λ choice. ended (requests.Decisions from.0 choice.0, []) choice.1) x e) [
+      | step from from_is after_from ↦
+          let t_from = number_takes 8 bytes from fits from_is in
+          elim (bind_ok (number_at 4 from.1) (λ choice. ended (requests.Decisions from.0 choice.0, []) choice.1) x after_from) [
+            | step choice choice_is after_choice ↦
+                let t_choice = number_takes 4 from.1 choice t_from.0.rest_fits choice_is in
+                let made : Request × List ℕ = (requests.Decisions from.0 choice.0, []) in
+                let w_choice = Takes-then bytes (number_bytes 8 from.0) from.1 (number_bytes 4 choice.0) choice.1 t_from.0 t_choice.0 in
+                let last = ended_takes made x choice.1 after_choice in
+                let all : bytes ≡ ((number_bytes 8 from.0) ++ number_bytes 4 choice.0) ++ [] = w_choice.parts ∙ ap (λ (rest : List ℕ). ((number_bytes 8 from.0) ++ number_bytes 4 choice.0) ++ rest) last.1 in
+                let found : Taken bytes 13 made = record { kind_is = refl; parts = all; fits = (t_from.1, t_choice.1); tail = refl } in
+                subst (λ (y : Request × List ℕ). Taken bytes 13 y) last.0 found
+          ]
+    ]
+
+decisions_again : (from : ℕ) (choice : ℕ) → IsRequest (requests.Decisions from choice) → decisions_in (fields_bytes (requests.Decisions from choice) ++ []) ≡ Ok ((requests.Decisions from choice), [])
+unfolding fields_bytes
+decisions_again from choice fits =
+    let regrouped : fields_bytes (requests.Decisions from choice) ++ [] ≡ number_bytes 8 from ++ (number_bytes 4 choice ++ []) = append_assoc (number_bytes 8 from) (number_bytes 4 choice) ([]) in
+    ap decisions_in regrouped ∙ rw (number_again 8 from (number_bytes 4 choice ++ []) fits.0, number_again 4 choice ([]) fits.1) refl
+
 -- ---- the kind
 
 abbrev none : Result (Request × List ℕ) RecordFault
@@ -253,43 +277,47 @@ unknown_is_none x e = cc
 kind_takes : (kind : ℕ) (bytes : List ℕ) (x : Request × List ℕ) → IsBytes bytes → request_in kind bytes ≡ Ok x → Taken bytes kind x
 unfolding request_in
 kind_takes kind bytes x fits e =
-    elim (chosen (eqb kind 1) (command_in bytes) (cond (eqb kind 2) (offer_in bytes) (cond (eqb kind 3) (poll_in bytes) (cond (eqb kind 4) (mail_in bytes) (cond (eqb kind 5) (list_in bytes) (cond (eqb kind 6) (value_in bytes) (cond (eqb kind 7) (stop_in bytes) (cond (eqb kind 8) (reload_in bytes) (cond (eqb kind 9) (status_in bytes) (cond (eqb kind 10) (poll_all_in bytes) (cond (eqb kind 11) (publication_positions_in bytes) (cond (eqb kind 12) (image_positions_in bytes) (Err Unknown)))))))))))) x e) [
+    elim (chosen (eqb kind 1) (command_in bytes) (cond (eqb kind 2) (offer_in bytes) (cond (eqb kind 3) (poll_in bytes) (cond (eqb kind 4) (mail_in bytes) (cond (eqb kind 5) (list_in bytes) (cond (eqb kind 6) (value_in bytes) (cond (eqb kind 7) (stop_in bytes) (cond (eqb kind 8) (reload_in bytes) (cond (eqb kind 9) (status_in bytes) (cond (eqb kind 10) (poll_all_in bytes) (cond (eqb kind 11) (publication_positions_in bytes) (cond (eqb kind 12) (image_positions_in bytes) (cond (eqb kind 13) (decisions_in bytes) (Err Unknown))))))))))))) x e) [
       | inl here ↦ subst (λ (k : ℕ). Taken bytes k x) (sym (eqb-true kind 1 here.0)) (command_takes bytes x fits here.1)
       | inr later0 ↦
-          elim (chosen (eqb kind 2) (offer_in bytes) (cond (eqb kind 3) (poll_in bytes) (cond (eqb kind 4) (mail_in bytes) (cond (eqb kind 5) (list_in bytes) (cond (eqb kind 6) (value_in bytes) (cond (eqb kind 7) (stop_in bytes) (cond (eqb kind 8) (reload_in bytes) (cond (eqb kind 9) (status_in bytes) (cond (eqb kind 10) (poll_all_in bytes) (cond (eqb kind 11) (publication_positions_in bytes) (cond (eqb kind 12) (image_positions_in bytes) (Err Unknown))))))))))) x later0.1) [
+          elim (chosen (eqb kind 2) (offer_in bytes) (cond (eqb kind 3) (poll_in bytes) (cond (eqb kind 4) (mail_in bytes) (cond (eqb kind 5) (list_in bytes) (cond (eqb kind 6) (value_in bytes) (cond (eqb kind 7) (stop_in bytes) (cond (eqb kind 8) (reload_in bytes) (cond (eqb kind 9) (status_in bytes) (cond (eqb kind 10) (poll_all_in bytes) (cond (eqb kind 11) (publication_positions_in bytes) (cond (eqb kind 12) (image_positions_in bytes) (cond (eqb kind 13) (decisions_in bytes) (Err Unknown)))))))))))) x later0.1) [
             | inl here ↦ subst (λ (k : ℕ). Taken bytes k x) (sym (eqb-true kind 2 here.0)) (offer_takes bytes x fits here.1)
             | inr later1 ↦
-                elim (chosen (eqb kind 3) (poll_in bytes) (cond (eqb kind 4) (mail_in bytes) (cond (eqb kind 5) (list_in bytes) (cond (eqb kind 6) (value_in bytes) (cond (eqb kind 7) (stop_in bytes) (cond (eqb kind 8) (reload_in bytes) (cond (eqb kind 9) (status_in bytes) (cond (eqb kind 10) (poll_all_in bytes) (cond (eqb kind 11) (publication_positions_in bytes) (cond (eqb kind 12) (image_positions_in bytes) (Err Unknown)))))))))) x later1.1) [
+                elim (chosen (eqb kind 3) (poll_in bytes) (cond (eqb kind 4) (mail_in bytes) (cond (eqb kind 5) (list_in bytes) (cond (eqb kind 6) (value_in bytes) (cond (eqb kind 7) (stop_in bytes) (cond (eqb kind 8) (reload_in bytes) (cond (eqb kind 9) (status_in bytes) (cond (eqb kind 10) (poll_all_in bytes) (cond (eqb kind 11) (publication_positions_in bytes) (cond (eqb kind 12) (image_positions_in bytes) (cond (eqb kind 13) (decisions_in bytes) (Err Unknown))))))))))) x later1.1) [
                   | inl here ↦ subst (λ (k : ℕ). Taken bytes k x) (sym (eqb-true kind 3 here.0)) (poll_takes bytes x fits here.1)
                   | inr later2 ↦
-                      elim (chosen (eqb kind 4) (mail_in bytes) (cond (eqb kind 5) (list_in bytes) (cond (eqb kind 6) (value_in bytes) (cond (eqb kind 7) (stop_in bytes) (cond (eqb kind 8) (reload_in bytes) (cond (eqb kind 9) (status_in bytes) (cond (eqb kind 10) (poll_all_in bytes) (cond (eqb kind 11) (publication_positions_in bytes) (cond (eqb kind 12) (image_positions_in bytes) (Err Unknown))))))))) x later2.1) [
+                      elim (chosen (eqb kind 4) (mail_in bytes) (cond (eqb kind 5) (list_in bytes) (cond (eqb kind 6) (value_in bytes) (cond (eqb kind 7) (stop_in bytes) (cond (eqb kind 8) (reload_in bytes) (cond (eqb kind 9) (status_in bytes) (cond (eqb kind 10) (poll_all_in bytes) (cond (eqb kind 11) (publication_positions_in bytes) (cond (eqb kind 12) (image_positions_in bytes) (cond (eqb kind 13) (decisions_in bytes) (Err Unknown)))))))))) x later2.1) [
                         | inl here ↦ subst (λ (k : ℕ). Taken bytes k x) (sym (eqb-true kind 4 here.0)) (mail_takes bytes x fits here.1)
                         | inr later3 ↦
-                            elim (chosen (eqb kind 5) (list_in bytes) (cond (eqb kind 6) (value_in bytes) (cond (eqb kind 7) (stop_in bytes) (cond (eqb kind 8) (reload_in bytes) (cond (eqb kind 9) (status_in bytes) (cond (eqb kind 10) (poll_all_in bytes) (cond (eqb kind 11) (publication_positions_in bytes) (cond (eqb kind 12) (image_positions_in bytes) (Err Unknown)))))))) x later3.1) [
+                            elim (chosen (eqb kind 5) (list_in bytes) (cond (eqb kind 6) (value_in bytes) (cond (eqb kind 7) (stop_in bytes) (cond (eqb kind 8) (reload_in bytes) (cond (eqb kind 9) (status_in bytes) (cond (eqb kind 10) (poll_all_in bytes) (cond (eqb kind 11) (publication_positions_in bytes) (cond (eqb kind 12) (image_positions_in bytes) (cond (eqb kind 13) (decisions_in bytes) (Err Unknown))))))))) x later3.1) [
                               | inl here ↦ subst (λ (k : ℕ). Taken bytes k x) (sym (eqb-true kind 5 here.0)) (list_takes bytes x fits here.1)
                               | inr later4 ↦
-                                  elim (chosen (eqb kind 6) (value_in bytes) (cond (eqb kind 7) (stop_in bytes) (cond (eqb kind 8) (reload_in bytes) (cond (eqb kind 9) (status_in bytes) (cond (eqb kind 10) (poll_all_in bytes) (cond (eqb kind 11) (publication_positions_in bytes) (cond (eqb kind 12) (image_positions_in bytes) (Err Unknown))))))) x later4.1) [
+                                  elim (chosen (eqb kind 6) (value_in bytes) (cond (eqb kind 7) (stop_in bytes) (cond (eqb kind 8) (reload_in bytes) (cond (eqb kind 9) (status_in bytes) (cond (eqb kind 10) (poll_all_in bytes) (cond (eqb kind 11) (publication_positions_in bytes) (cond (eqb kind 12) (image_positions_in bytes) (cond (eqb kind 13) (decisions_in bytes) (Err Unknown)))))))) x later4.1) [
                                     | inl here ↦ subst (λ (k : ℕ). Taken bytes k x) (sym (eqb-true kind 6 here.0)) (value_takes bytes x fits here.1)
                                     | inr later5 ↦
-                                        elim (chosen (eqb kind 7) (stop_in bytes) (cond (eqb kind 8) (reload_in bytes) (cond (eqb kind 9) (status_in bytes) (cond (eqb kind 10) (poll_all_in bytes) (cond (eqb kind 11) (publication_positions_in bytes) (cond (eqb kind 12) (image_positions_in bytes) (Err Unknown)))))) x later5.1) [
+                                        elim (chosen (eqb kind 7) (stop_in bytes) (cond (eqb kind 8) (reload_in bytes) (cond (eqb kind 9) (status_in bytes) (cond (eqb kind 10) (poll_all_in bytes) (cond (eqb kind 11) (publication_positions_in bytes) (cond (eqb kind 12) (image_positions_in bytes) (cond (eqb kind 13) (decisions_in bytes) (Err Unknown))))))) x later5.1) [
                                           | inl here ↦ subst (λ (k : ℕ). Taken bytes k x) (sym (eqb-true kind 7 here.0)) (stop_takes bytes x fits here.1)
                                           | inr later6 ↦
-                                              elim (chosen (eqb kind 8) (reload_in bytes) (cond (eqb kind 9) (status_in bytes) (cond (eqb kind 10) (poll_all_in bytes) (cond (eqb kind 11) (publication_positions_in bytes) (cond (eqb kind 12) (image_positions_in bytes) (Err Unknown))))) x later6.1) [
+                                              elim (chosen (eqb kind 8) (reload_in bytes) (cond (eqb kind 9) (status_in bytes) (cond (eqb kind 10) (poll_all_in bytes) (cond (eqb kind 11) (publication_positions_in bytes) (cond (eqb kind 12) (image_positions_in bytes) (cond (eqb kind 13) (decisions_in bytes) (Err Unknown)))))) x later6.1) [
                                                 | inl here ↦ subst (λ (k : ℕ). Taken bytes k x) (sym (eqb-true kind 8 here.0)) (reload_takes bytes x fits here.1)
                                                 | inr later7 ↦
-                                                    elim (chosen (eqb kind 9) (status_in bytes) (cond (eqb kind 10) (poll_all_in bytes) (cond (eqb kind 11) (publication_positions_in bytes) (cond (eqb kind 12) (image_positions_in bytes) (Err Unknown)))) x later7.1) [
+                                                    elim (chosen (eqb kind 9) (status_in bytes) (cond (eqb kind 10) (poll_all_in bytes) (cond (eqb kind 11) (publication_positions_in bytes) (cond (eqb kind 12) (image_positions_in bytes) (cond (eqb kind 13) (decisions_in bytes) (Err Unknown))))) x later7.1) [
                                                       | inl here ↦ subst (λ (k : ℕ). Taken bytes k x) (sym (eqb-true kind 9 here.0)) (status_takes bytes x fits here.1)
                                                       | inr later8 ↦
-                                                          elim (chosen (eqb kind 10) (poll_all_in bytes) (cond (eqb kind 11) (publication_positions_in bytes) (cond (eqb kind 12) (image_positions_in bytes) (Err Unknown))) x later8.1) [
+                                                          elim (chosen (eqb kind 10) (poll_all_in bytes) (cond (eqb kind 11) (publication_positions_in bytes) (cond (eqb kind 12) (image_positions_in bytes) (cond (eqb kind 13) (decisions_in bytes) (Err Unknown)))) x later8.1) [
                                                             | inl here ↦ subst (λ (k : ℕ). Taken bytes k x) (sym (eqb-true kind 10 here.0)) (poll_all_takes bytes x fits here.1)
                                                             | inr later9 ↦
-                                                                elim (chosen (eqb kind 11) (publication_positions_in bytes) (cond (eqb kind 12) (image_positions_in bytes) (Err Unknown)) x later9.1) [
+                                                                elim (chosen (eqb kind 11) (publication_positions_in bytes) (cond (eqb kind 12) (image_positions_in bytes) (cond (eqb kind 13) (decisions_in bytes) (Err Unknown))) x later9.1) [
                                                                   | inl here ↦ subst (λ (k : ℕ). Taken bytes k x) (sym (eqb-true kind 11 here.0)) (publication_positions_takes bytes x fits here.1)
                                                                   | inr later10 ↦
-                                                                      elim (chosen (eqb kind 12) (image_positions_in bytes) (Err Unknown) x later10.1) [
+                                                                      elim (chosen (eqb kind 12) (image_positions_in bytes) (cond (eqb kind 13) (decisions_in bytes) (Err Unknown)) x later10.1) [
                                                                         | inl here ↦ subst (λ (k : ℕ). Taken bytes k x) (sym (eqb-true kind 12 here.0)) (image_positions_takes bytes x fits here.1)
                                                                         | inr later11 ↦
-                                                                            absurd (unknown_is_none x later11.1)
+                                                                            elim (chosen (eqb kind 13) (decisions_in bytes) (Err Unknown) x later11.1) [
+                                                                              | inl here ↦ subst (λ (k : ℕ). Taken bytes k x) (sym (eqb-true kind 13 here.0)) (decisions_takes bytes x fits here.1)
+                                                                              | inr later12 ↦
+                                                                                  absurd (unknown_is_none x later12.1)
+                                                                            ]
                                                                       ]
                                                                 ]
                                                           ]
@@ -317,6 +345,7 @@ kind_again requests.Status tail fits ok = rw ok (status_again)
 kind_again (requests.PollAll limit wait) tail fits ok = poll_all_again limit wait tail fits ok
 kind_again (requests.PublicationPositions registration) tail fits ok = rw ok (publication_positions_again registration fits)
 kind_again (requests.ImagePositions subscription source) tail fits ok = rw ok (image_positions_again subscription source fits)
+kind_again (requests.Decisions from choice) tail fits ok = rw ok (decisions_again from choice fits)
 
 kind_fits : (x : Request) → kind_number x < 256 ^ 4
 unfolding kind_number
@@ -332,6 +361,7 @@ kind_fits requests.Status = omega arith
 kind_fits (requests.PollAll limit wait) = omega arith
 kind_fits (requests.PublicationPositions registration) = omega arith
 kind_fits (requests.ImagePositions subscription source) = omega arith
+kind_fits (requests.Decisions from choice) = omega arith
 
 -- ---- the whole
 

@@ -65,6 +65,12 @@ image_positions_in bytes = do
   source ← number_at 8 subscription.1
   ended (requests.ImagePositions subscription.0 source.0, []) source.1
 
+abbrev pub decisions_in : List ℕ → Result (Request × List ℕ) RecordFault
+decisions_in bytes = do
+  from ← number_at 8 bytes
+  choice ← number_at 4 from.1
+  ended (requests.Decisions from.0 choice.0, []) choice.1
+
 -- what follows a kind
 unfoldable pub request_in : ℕ → List ℕ → Result (Request × List ℕ) RecordFault
 request_in kind bytes =
@@ -80,7 +86,8 @@ request_in kind bytes =
     else (if kind == 10 then poll_all_in bytes
     else (if kind == 11 then publication_positions_in bytes
     else (if kind == 12 then image_positions_in bytes
-    else Err Unknown)))))))))))
+    else (if kind == 13 then decisions_in bytes
+    else Err Unknown))))))))))))
 
 -- a record, and its tail: whatever follows a kind that is not known, the record is unknown
 unfoldable pub request_of : List ℕ → Result (Request × List ℕ) RecordFault
@@ -99,6 +106,7 @@ kind_number requests.Status = 9
 kind_number (requests.PollAll limit wait) = 10
 kind_number (requests.PublicationPositions registration) = 11
 kind_number (requests.ImagePositions subscription source) = 12
+kind_number (requests.Decisions from choice) = 13
 
 unfoldable pub fields_bytes : Request → List ℕ
 fields_bytes requests.Command = []
@@ -113,6 +121,7 @@ fields_bytes requests.Status = []
 fields_bytes (requests.PollAll limit wait) = number_bytes 4 limit ++ number_bytes 4 wait
 fields_bytes (requests.PublicationPositions registration) = number_bytes 8 registration
 fields_bytes (requests.ImagePositions subscription source) = number_bytes 8 subscription ++ number_bytes 8 source
+fields_bytes (requests.Decisions from choice) = number_bytes 8 from ++ number_bytes 4 choice
 
 -- a record without its length
 unfoldable pub request_body : Request → List ℕ → List ℕ
@@ -136,6 +145,7 @@ IsRequest requests.Status = Unit {0}
 IsRequest (requests.PollAll limit wait) = (limit < 2 ^ 32) × (wait < 2 ^ 32)
 IsRequest (requests.PublicationPositions registration) = (registration < 2 ^ 64)
 IsRequest (requests.ImagePositions subscription source) = (subscription < 2 ^ 64) × (source < 2 ^ 64)
+IsRequest (requests.Decisions from choice) = (from < 2 ^ 64) × (choice < 2 ^ 32)
 
 -- and a tail stands only where the kind has one
 abbrev pub IsTail : Request → List ℕ → Type 0
@@ -151,3 +161,4 @@ IsTail requests.Status tail = tail ≡ []
 IsTail (requests.PollAll limit wait) tail = (length tail ≤ 1024) × (length tail % 16 ≡ 0)
 IsTail (requests.PublicationPositions registration) tail = tail ≡ []
 IsTail (requests.ImagePositions subscription source) tail = tail ≡ []
+IsTail (requests.Decisions from choice) tail = tail ≡ []

@@ -1,7 +1,7 @@
 //! The requests of a client.
 
 ghost use Rattle.service_records.specs.Gives.{Equals};
-ghost use Rattle.service_records.specs.Request.{command_in, fields_bytes, image_positions_in, kind_number, list_in, mail_in, offer_in, poll_all_in, poll_in, publication_positions_in, reload_in, request_body, request_bytes, request_in, request_of, status_in, stop_in, value_in};
+ghost use Rattle.service_records.specs.Request.{command_in, decisions_in, fields_bytes, image_positions_in, kind_number, list_in, mail_in, offer_in, poll_all_in, poll_in, publication_positions_in, reload_in, request_body, request_bytes, request_in, request_of, status_in, stop_in, value_in};
 ghost use Rattle.std.specs.Prelude.{◌≡◌, ◌≤◌, ◌++◌, length, OnOk};
 
 use crate::fault::RecordFault;
@@ -56,6 +56,12 @@ pub enum Request {
     ImagePositions {
         subscription: u64,
         source: u64,
+    },
+    /// Of an operator: what was decided, from a number on, which counts decisions from 0. Of `choice` 1 says denials alone, which have
+    /// numbers of their own, and 2 as JSON.
+    Decisions {
+        from: u64,
+        choice: u32,
     },
 }
 
@@ -176,6 +182,15 @@ fn image_positions(bytes: &[u8]) -> Result<(Request, &[u8]), RecordFault>
     ))
 }
 
+fn decisions(bytes: &[u8]) -> Result<(Request, &[u8]), RecordFault>
+    ensures { Equals (λ x. (x.0, x.1.now)) result (decisions_in bytes.now) }
+{
+    let (from, rest) = fields::u64_at(bytes)?;
+    let (choice, rest) = fields::u32_at(rest)?;
+    fields::end(rest)?;
+    Ok((Request::Decisions { from, choice }, &[]))
+}
+
 #[tactic(auto, unfolding(crate::specs::Request::request_in))]
 fn read_fields(kind: u32, bytes: &[u8]) -> Result<(Request, &[u8]), RecordFault>
     ensures { Equals (λ x. (x.0, x.1.now)) result (request_in kind bytes.now) }
@@ -193,6 +208,7 @@ fn read_fields(kind: u32, bytes: &[u8]) -> Result<(Request, &[u8]), RecordFault>
         10 => poll_all(bytes),
         11 => publication_positions(bytes),
         12 => image_positions(bytes),
+        13 => decisions(bytes),
         _ => Err(RecordFault::Unknown),
     }
 }
@@ -227,6 +243,7 @@ impl Request {
             Request::PollAll { .. } => 10,
             Request::PublicationPositions { .. } => 11,
             Request::ImagePositions { .. } => 12,
+            Request::Decisions { .. } => 13,
         }
     }
 
@@ -276,6 +293,10 @@ impl Request {
                 fields::put_u64(out, *subscription)?;
                 fields::put_u64(out, *source)
             }
+            Request::Decisions { from, choice } => {
+                fields::put_u64(out, *from)?;
+                fields::put_u32(out, *choice)
+            }
         }
     }
 
@@ -297,6 +318,7 @@ impl Request {
             Request::PollAll { .. } => 8,
             Request::PublicationPositions { .. } => 8,
             Request::ImagePositions { .. } => 16,
+            Request::Decisions { .. } => 12,
         }
     }
 

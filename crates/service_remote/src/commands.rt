@@ -5,12 +5,13 @@ use crate::remote::{PATIENCE, Remote};
 use byte_strings::Text;
 use command_codec::{Body, Command, Reply};
 use service_records::{Answer, Request};
+use std::alloc::Global;
 
 /// How long a reply is waited for at once, in milliseconds.
 const WAIT: u32 = 200;
 
 /// What a reply says of the command of that correlation id.
-fn answered(reply: &Reply, command: u64) -> Option<Result<u64, RemoteFault>> {
+fn answered(alloc: Global, reply: &Reply, command: u64) -> Option<Result<u64, RemoteFault>> {
     match reply {
         Reply::SubscriptionReady(ready) if ready.correlation == command => {
             Some(Ok(ready.registration))
@@ -19,7 +20,8 @@ fn answered(reply: &Reply, command: u64) -> Option<Result<u64, RemoteFault>> {
             Some(Ok(ready.registration))
         }
         Reply::Error(error) if error.correlation == command => {
-            Some(Err(RemoteFault::told(error.text.as_str().as_bytes())))
+            let words = error.text.as_str().as_bytes();
+            Some(Err(RemoteFault::told(alloc, words)))
         }
         _ => None,
     }
@@ -76,7 +78,7 @@ impl Remote {
             let Some(reply) = self.reply()? else {
                 break;
             };
-            match answered(&reply, correlation) {
+            match answered(self.alloc, &reply, correlation) {
                 Some(answered) => found = Some(answered),
                 None => others.push(reply)?,
             }

@@ -1,7 +1,8 @@
 //! Why a client of a driver that serves gave up.
 
+use plain_words::plain;
 use program_parts::PartFault;
-use std::alloc::{AllocError, AllocFailed};
+use std::alloc::{AllocError, AllocFailed, Global};
 use std::{fmt, str};
 use thiserror::Error;
 
@@ -48,10 +49,13 @@ impl RemoteFault {
     pub const WRITE: RemoteFault = RemoteFault::Part(PartFault::Write);
 
     /// A refusal that the driver put into words.
-    pub(crate) fn told(text: &[u8]) -> RemoteFault {
-        match str::from_utf8(text) {
-            Ok(text) => RemoteFault::Told(Told::new(text)),
-            Err(_) => RemoteFault::Protocol,
+    pub(crate) fn told(alloc: Global, text: &[u8]) -> RemoteFault {
+        let Ok(text) = str::from_utf8(text) else {
+            return RemoteFault::Protocol;
+        };
+        match plain(alloc, text) {
+            Ok(words) => RemoteFault::Told(Told::new(words.as_str())),
+            Err(_) => RemoteFault::NO_MEMORY,
         }
     }
 }
@@ -74,7 +78,7 @@ impl<T: Drop> From<AllocFailed<T>> for RemoteFault {
     }
 }
 
-/// What a driver said, as far as it is kept: its first 512 bytes.
+/// What a driver said, as it is printed and as far as it is kept: its first 512 characters.
 #[derive(Clone, Copy, Debug)]
 pub struct Told {
     bytes: [u8; 512],

@@ -9,9 +9,11 @@ mod orders;
 mod publishing;
 mod remote;
 mod subscribing;
+mod watching;
 
 pub use fault::{RemoteFault, Told};
 pub use looking::print_counters;
 pub use orders::print_order;
 pub use publishing::{Offering, publish};
 pub use subscribing::{Wanted, subscribe};
+pub use watching::{Watched, watch_decisions};

@@ -3,7 +3,7 @@
 use crate::fault::RemoteFault;
 use crate::remote::Remote;
 use command_codec::Body;
-use policy_tools::plain;
+use plain_words::plain;
 use program_parts::{Disk, Machine, SECOND, ticks};
 use service_records::{Answer, Request};
 use std::alloc::Global;

@@ -228,7 +228,7 @@ impl Remote {
 
     /// The refusal that the last answer puts into words.
     pub(crate) fn refusal(&self) -> RemoteFault {
-        RemoteFault::told(self.incoming.tail())
+        RemoteFault::told(self.alloc, self.incoming.tail())
     }
 
     /// The answer that closes a request which is answered by nothing else.

@@ -146,6 +146,18 @@ returns-in-Status g c = record {
   };
 }
 
+pub returns-in-Decisions : goal.returns-in-Decisions
+returns-in-Decisions g c = record {
+  calls = stay_alone g.S.Seat.does (IsNamed c.args.request c.args.tail.now) c.args.self.now.seat c.stay.new.self c.stay.ensures;
+  answered = record {
+    heard = c.stay.new.self;
+    stays = c.stay.ensures;
+    kept = subst (λ (r : Request). KeepsRefusals r c.args.self.now.refusals c.args.self.now.refusals) (sym c.in-Decisions.is) refl;
+    answer =
+        subst (λ (r : Request). IsAnswer g.S.Seat.does r c.args.tail.now c.args.self.now.refusals c.args.self.now.refusals c.stay.new.self c.stay.new.self c.args.out.now.items c.refuse-in-Decisions.new.out.items c.refuse-in-Decisions.result) (sym c.in-Decisions.is) (record { same = refl; answered = c.refuse-in-Decisions.ensures });
+  };
+}
+
 pub returns-in-PollAll-clause-calls : goal.returns-in-PollAll-clause-calls
 returns-in-PollAll-clause-calls g c =
     let pairs = polled_pairs c.args.tail.now in
