@@ -2,6 +2,7 @@
 use Rattle.std.specs.Prelude.{ℕ, ℤ, ◌-◌, nat_lt, List, ◌++◌, Option, Some, None, codes, if◌then◌else◌}
 use Rattle.std.specs.Fmt.{decimal, signed_decimal}
 use Rattle.stream_gaps.specs.declared.gap.Gap.{Gap}
+use Rattle.stream_gaps.specs.declared.gap.NotRetransmitted.{NotRetransmitted}
 use Rattle.stream_gaps.specs.declared.gap.NotTaken.{NotTaken}
 
 -- the bytes from where it was read to up to where it is read on; none where it was not read before
@@ -14,6 +15,11 @@ abbrev pub gap_text : Gap → List ℕ
 gap_text gap =
     codes "gap: session " ++ (signed_decimal gap.session ++ (codes ", " ++ (decimal gap.bytes
     ++ (codes " bytes from " ++ (decimal gap.from ++ codes " lost")))))
+
+abbrev pub not_retransmitted_text : NotRetransmitted → List ℕ
+not_retransmitted_text rest =
+    codes "gap: session " ++ (signed_decimal rest.session ++ (codes ", bytes from " ++ (decimal rest.from
+    ++ codes " not retransmitted")))
 
 abbrev pub not_taken_text : NotTaken → List ℕ
 not_taken_text rest =

@@ -1,4 +1,5 @@
 pub mod Gaps
 pub mod Sessions
+pub mod Standing
 pub mod TakenUp
 pub mod Untaken

@@ -1,4 +1,4 @@
-ghost use Rattle.stream_gaps.specs.Gaps.{gap_after, gap_text, not_taken_text};
+ghost use Rattle.stream_gaps.specs.Gaps.{gap_after, gap_text, not_retransmitted_text, not_taken_text};
 ghost use Rattle.std.specs.Prelude.{◌≡◌, Some};
 
 use std::fmt;
@@ -42,6 +42,26 @@ impl fmt::Display for Gap {
             bytes,
         } = self;
         write!(f, "gap: session {session}, {bytes} bytes from {from} lost")
+    }
+}
+
+/// Bytes of a stream that a subscriber lacks, and that do not come although it asks for them.
+#[derive(Clone, Copy, Debug, PartialEq, Eq)]
+pub struct NotRetransmitted {
+    pub session: i32,
+    /// The position at which they begin.
+    pub from: u64,
+}
+
+impl fmt::Display for NotRetransmitted {
+    ghost output = { λ rest. Some (not_retransmitted_text rest) };
+
+    fn fmt<W: fmt::Write>(&self, f: &mut fmt::Formatter<W>) -> fmt::Result {
+        let NotRetransmitted { session, from } = self;
+        write!(
+            f,
+            "gap: session {session}, bytes from {from} not retransmitted"
+        )
     }
 }
 
