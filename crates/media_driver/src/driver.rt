@@ -165,7 +165,7 @@ impl<
         alloc: Global,
         clock: C,
         publisher: Publisher,
-        prepared: Prepared<N, G, W>,
+        prepared: Prepared<N, G, Agents<N, G, W>>,
     ) -> Result<Driver<N, R, C>, StartFault>
         requires ours { publisher.book ≡ N.book }
         requires sound { IsSound (registry_of publisher) }

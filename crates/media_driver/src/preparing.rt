@@ -3,7 +3,7 @@
 ghost use Rattle.media_driver.specs.Parts.{AreFresh};
 ghost use Rattle.std.specs.Prelude.{◌≡◌, ◌+◌, ◌*◌, ◌^◌, [], IfOk, OnOk, length};
 
-use crate::parts::{Hands, Pieces, Store};
+use crate::parts::{Blanks, Hands, Pieces, Store};
 use crate::seats::{Seats, make_seats};
 use crate::starting::{Base, Common, Ledger, make_base, shared};
 use crate::works::{Receiving, Sending};
@@ -205,10 +205,108 @@ fn make_desks<N: DriverNaming, G: Gate + Drop>(
 
 /// All that a driver is made of, but for the publisher, once its memory is taken.
 #[derive(Drop)]
-pub(crate) struct Prepared<N: DriverNaming, G: Gate + Drop, W: Wire + Drop> {
+pub(crate) struct Prepared<N: DriverNaming, G: Gate + Drop, A: Drop> {
     pub(crate) kept: Kept<N>,
     pub(crate) desks: Desks<N, G>,
-    pub(crate) agents: Agents<N, G, W>,
+    /// The sender and the receiver.
+    pub(crate) agents: A,
+}
+
+/// What stands below all agents: their gate, what they have in common, and the owner's end of the elicitations.
+#[derive(Drop)]
+struct Ground<N: DriverNaming, G: Gate + Drop> {
+    gate: Arc<G>,
+    base: Base<N>,
+    ours: Elicitations,
+}
+
+/// What the sender and the receiver alone have: their ends of the wire, and the receiver's end of the elicitations.
+#[derive(Drop)]
+struct Lines<W: Wire + Drop, R: Wait + Copy + Drop> {
+    wires: Wires<W, R>,
+    theirs: Elicited,
+}
+
+/// Takes the memory of both.
+fn make_ground<N: DriverNaming, R: Wait + Copy + Drop, G: Gate + Drop, W: Wire + Drop>(
+    rt: R,
+    alloc: Global,
+    blanks: Blanks,
+    gate: G,
+    wire: W,
+) -> Result<(Ground<N, G>, Lines<W, R>), AllocError>
+    requires messages { (blanks.messages.name ≡ N.ledger) × (blanks.messages.parts ≡ N.parts) × (N.parts ≡ 321) }
+    requires clients { (blanks.clients.name ≡ N.client_ledger) × (blanks.clients.parts ≡ N.client_parts) × (N.client_parts ≡ 65) }
+    ensures counted { IfOk result (λ made. made.0.base.ledger.counted ≡ record { parts = 65; number = 0 }) }
+    ensures clients { IfOk result (λ made. made.0.base.ledger.clients.parts ≡ 65) }
+    ensures total { IfOk result (λ made. (made.0.base.ledger.total.amount ≡ 256 * 2 ^ 55) × (made.0.base.ledger.total.parts ≡ 321)) }
+    ensures elicited { IfOk result (λ made. made.0.ours ≡ []) }
+{
+    let gate = shared(alloc, gate)?;
+    let wires = make_wires(alloc, rt, wire)?;
+    let (ours, theirs) = make_elicitations(alloc)?;
+    let base = make_base(alloc, blanks)?;
+    let ground = Ground { gate, base, ours };
+    Ok((ground, Lines { wires, theirs }))
+}
+
+/// Takes the rest of the memory, once that of the agents is taken.
+fn fit_out<N: DriverNaming, G: Gate + Drop, A: Drop>(
+    alloc: Global,
+    ground: Ground<N, G>,
+    hands: Hands,
+    store: Store,
+    agents: A,
+) -> Result<Prepared<N, G, A>, AllocError>
+    requires fresh { AreFresh N.book hands.passes.items hands.senders.items }
+    requires passes { length hands.passes.items ≡ 64 }
+    requires senders { length hands.senders.items ≡ 65 }
+    ensures arena { IfOk result (λ prepared. prepared.desks.arena ≡ store.arena) }
+    ensures ledger { IfOk result (λ prepared. prepared.kept.ledger ≡ ground.base.ledger) }
+    ensures queue { IfOk result (λ prepared. prepared.kept.queue.sent ≡ []) }
+    ensures elicited { IfOk result (λ prepared. prepared.kept.elicitations ≡ ground.ours) }
+    ensures seats { IfOk result (λ prepared. prepared.kept.seats ≡ 64) }
+{
+    let Ground { gate, base, ours } = ground;
+    let (kept, rings) = keep(alloc, base, hands, ours)?;
+    let desks = make_desks(alloc, &kept.common, rings, gate, store)?;
+    Ok(Prepared {
+        kept,
+        desks,
+        agents,
+    })
+}
+
+/// Takes the memory of the agents, and the rest.
+fn build_on<N: DriverNaming, R: Wait + Copy + Drop, G: Gate + Drop, W: Wire + Drop>(
+    alloc: Global,
+    ground: Ground<N, G>,
+    lines: Lines<W, R>,
+    hands: Hands,
+    store: Store,
+    local: Address,
+) -> Result<Prepared<N, G, Agents<N, G, Shared<W, R>>>, AllocError>
+    requires fresh { AreFresh N.book hands.passes.items hands.senders.items }
+    requires passes { length hands.passes.items ≡ 66 }
+    requires senders { length hands.senders.items ≡ 66 }
+    ensures arena { IfOk result (λ prepared. prepared.desks.arena ≡ store.arena) }
+    ensures ledger { IfOk result (λ prepared. prepared.kept.ledger ≡ ground.base.ledger) }
+    ensures queue { IfOk result (λ prepared. prepared.kept.queue.sent ≡ []) }
+    ensures elicited { IfOk result (λ prepared. prepared.kept.elicitations ≡ ground.ours) }
+    ensures seats { IfOk result (λ prepared. prepared.kept.seats ≡ 64) }
+{
+    let mut hands = hands;
+    let Lines { wires, theirs } = lines;
+    let agents = make_agents(
+        alloc,
+        &ground.base.common,
+        &ground.gate,
+        &mut hands,
+        local,
+        theirs,
+        wires,
+    )?;
+    fit_out(alloc, ground, hands, store, agents)
 }
 
 /// Takes the memory that a driver needs beside its parts.
@@ -218,7 +316,7 @@ pub(crate) fn prepare<N: DriverNaming, R: Wait + Copy + Drop, G: Gate + Drop, W:
     pieces: Pieces,
     gate: G,
     wire: W,
-) -> Result<Prepared<N, G, Shared<W, R>>, AllocError>
+) -> Result<Prepared<N, G, Agents<N, G, Shared<W, R>>>, AllocError>
     requires messages { (pieces.blanks.messages.name ≡ N.ledger) × (pieces.blanks.messages.parts ≡ N.parts) × (N.parts ≡ 321) }
     requires clients { (pieces.blanks.clients.name ≡ N.client_ledger) × (pieces.blanks.clients.parts ≡ N.client_parts) × (N.client_parts ≡ 65) }
     requires fresh { AreFresh N.book pieces.hands.passes.items pieces.hands.senders.items }
@@ -235,28 +333,10 @@ pub(crate) fn prepare<N: DriverNaming, R: Wait + Copy + Drop, G: Gate + Drop, W:
     let Pieces {
         settings,
         store,
-        mut hands,
+        hands,
         blanks,
         bells: _,
     } = pieces;
-    let gate = shared(alloc, gate)?;
-    let wires = make_wires(alloc, rt, wire)?;
-    let base = make_base(alloc, blanks)?;
-    let (ours, theirs) = make_elicitations(alloc)?;
-    let agents = make_agents(
-        alloc,
-        &base.common,
-        &gate,
-        &mut hands,
-        settings.send_address,
-        theirs,
-        wires,
-    )?;
-    let (kept, rings) = keep(alloc, base, hands, ours)?;
-    let desks = make_desks(alloc, &kept.common, rings, gate, store)?;
-    Ok(Prepared {
-        kept,
-        desks,
-        agents,
-    })
+    let (ground, lines) = make_ground(rt, alloc, blanks, gate, wire)?;
+    build_on(alloc, ground, lines, hands, store, settings.send_address)
 }
