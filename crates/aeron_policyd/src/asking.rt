@@ -32,6 +32,19 @@ impl<N: DriverNaming + Send + Sync + 'static, R: Machine, F: Disk> Station<N, R,
         Ok(self.ready(command)?.registration)
     }
 
+    /// The same in place of an earlier subscription, with which nothing of it stays.
+    pub(crate) fn subscription_anew(
+        &mut self,
+        earlier: u64,
+        channel: &str,
+        stream: i32,
+    ) -> Result<u64, Fault> {
+        let removal = self.client.remove_subscription(&self.rt, earlier)?;
+        let command = self.client.add_subscription(&self.rt, channel, stream)?;
+        self.ready(removal)?;
+        Ok(self.ready(command)?.registration)
+    }
+
     /// Publishes a stream of a channel, and prints its session.
     pub(crate) fn publication(&mut self, channel: &str, stream: i32) -> Result<Ready, Fault> {
         let command = self.client.add_publication(&self.rt, channel, stream)?;

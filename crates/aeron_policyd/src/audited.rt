@@ -9,7 +9,7 @@ use program_parts::Machine;
 use std::fmt::Write;
 
 /// Whether it is the same as the one before.
-fn is_repeated(before: &Option<Decision>, decision: &Decision) -> bool {
+pub(crate) fn is_repeated(before: &Option<Decision>, decision: &Decision) -> bool {
     match before {
         Some(before) => before == decision,
         None => false,

@@ -1,7 +1,12 @@
-//! What principals and rules are called, for lines that say what was denied.
+//! What principals and rules are called, for lines that say what was decided.
 
+ghost use Rattle.std.specs.Prelude.{◌≡◌};
+
+use crate::decided::Taken;
 use byte_strings::Text;
-use denial_notes::{Again, Denial, Repeated, RuleNames, Worded};
+use denial_notes::{Again, Decider, Denial, Repeated, RuleNames, Worded};
+use moment_words::date_text;
+use plain_words::plain;
 use policy_core::{Policy, Principals, Verdict};
 use policy_tools::{Directory, principals_text};
 use std::alloc::{AllocError, Global};
@@ -21,6 +26,24 @@ fn copied(alloc: Global, directory: &Directory) -> Result<Directory, AllocError>
         copy = copy.with(alloc, name.copy(alloc)?, *number)?;
     }
     Ok(copy)
+}
+
+/// The number of a rule, with more bits.
+fn wide(rule: Option<u32>) -> Option<u64>
+    ensures { result ≡ rule }
+{
+    match rule {
+        Some(rule) => Some(rule as u64),
+        None => None,
+    }
+}
+
+/// The name of a rule, where it is known.
+fn known(name: &str) -> Option<&str> {
+    if name.is_empty() {
+        return None;
+    }
+    Some(name)
 }
 
 impl Book {
@@ -87,6 +110,72 @@ impl Books {
             denial: *denial,
         };
         format!(in alloc; "{worded}")
+    }
+
+    /// The line that says a decision.
+    fn taken_line(&self, alloc: Global, taken: &Taken) -> Result<String, AllocError> {
+        let Taken { moment, decision } = *taken;
+        let Verdict { allow, rule, epoch } = decision.verdict;
+        let moment = date_text(alloc, moment)?;
+        let principal = self.principal(alloc, decision.principal)?;
+        let act = decision.act.name();
+        let stream = decision.stream;
+        let word = if allow { "allowed" } else { "denied" };
+        let name = self.rule_of(&decision.verdict);
+        let decider = Decider { rule, name };
+        format!(in alloc;
+            "{moment} {principal}: {act} on stream {stream} {word} by {decider} in policy {epoch}\n"
+        )
+    }
+
+    /// The same as JSON.
+    fn taken_json(&self, alloc: Global, taken: &Taken) -> Result<String, AllocError> {
+        let Taken { moment, decision } = *taken;
+        let Verdict { allow, rule, epoch } = decision.verdict;
+        let moment = date_text(alloc, moment)?;
+        let principal = self.principal(alloc, decision.principal)?;
+        let name = plain(alloc, self.rule_of(&decision.verdict))?;
+        let name = known(name.as_str());
+        let taken = json_answers::Taken {
+            moment: moment.as_str(),
+            principal: principal.as_str(),
+            act: decision.act.name(),
+            stream: decision.stream,
+            subject: decision.subject,
+            allow,
+            policy: epoch,
+            rule: wide(rule),
+            name,
+        };
+        json_answers::taken(alloc, &taken)
+    }
+
+    /// The line that a decision is.
+    pub(crate) fn taken(
+        &self,
+        alloc: Global,
+        taken: &Taken,
+        json: bool,
+    ) -> Result<String, AllocError> {
+        if json {
+            self.taken_json(alloc, taken)
+        } else {
+            self.taken_line(alloc, taken)
+        }
+    }
+
+    /// The line that says how many decisions are not kept any more.
+    pub(crate) fn passed_over(
+        &self,
+        alloc: Global,
+        count: u64,
+        json: bool,
+    ) -> Result<String, AllocError> {
+        if json {
+            json_answers::passed_over(alloc, count)
+        } else {
+            format!(in alloc; "{count} decisions were passed over\n")
+        }
     }
 
     /// The line that says how often it came again.

@@ -1,6 +1,6 @@
 //! Doors that would have the same socket.
 
-use policy_tools::plain;
+use plain_words::plain;
 use service_doors::{Place, Plan};
 use std::alloc::{AllocError, Global};
 
@@ -37,7 +37,7 @@ pub(crate) fn clash(
     }
     Ok(Some(match plan.place {
         Place::Own(_) => {
-            let name = plan.name;
+            let name = plain(alloc, plan.name)?;
             format!(in alloc; "{name} has two doors")?
         }
         Place::At(path) => {

@@ -2,10 +2,11 @@
 //! threads that know of denials say them here, and wait for nobody who reads the lines.
 
 use crate::book::{Book, Books};
+use crate::decided::{Choice, Lately, Taken};
 use crate::fault::Fault;
 use denial_notes::{Denial, Notes};
-use policy_core::Decision;
 use program_parts::{Log, SECOND, ticks};
+use service_doors::Decided;
 use std::alloc::{AllocError, Global};
 use std::sync::{Arc, Mutex, Wait};
 use std::time::Clock;
@@ -30,6 +31,8 @@ struct Table {
 struct Desk {
     books: Books,
     tables: Vec<Table>,
+    /// What was decided lately, denied or not.
+    lately: Lately,
 }
 
 /// What was said of denials, and where.
@@ -113,7 +116,7 @@ impl Desk {
 
     /// What is over is told.
     fn tell<R: Wait>(&mut self, rt: &R, alloc: Global, log: &Arc<Log>, now: u64) {
-        let Desk { books, tables } = self;
+        let Desk { books, tables, .. } = self;
         for table in tables.iter_mut() {
             table.tell(rt, alloc, log, &*books, now);
         }
@@ -129,6 +132,7 @@ impl Denials {
             desk: Mutex::new(Desk {
                 books: Books::new(first),
                 tables: Vec::new(alloc),
+                lately: Lately::new(alloc)?,
             }),
         };
         match Arc::new(alloc, denials) {
@@ -144,15 +148,27 @@ impl Denials {
     }
 
     /// Something was decided. Where it is a denial that was not said lately, it is said.
-    pub(crate) fn note<R: Clock + Wait>(&self, rt: &R, decision: &Decision) {
-        let Some(denial) = Denial::of(decision) else {
+    pub(crate) fn note<R: Clock + Wait>(&self, rt: &R, taken: Taken) {
+        let mut desk = self.desk.lock(rt);
+        desk.lately.take(taken);
+        let Some(denial) = Denial::of(&taken.decision) else {
             return;
         };
         let now = ticks(rt);
-        let mut desk = self.desk.lock(rt);
         if desk.note(now, &denial) {
             self.log.say(rt, desk.books.first(self.alloc, &denial));
         }
+    }
+
+    /// What was decided from a number on, for an operator.
+    pub(crate) fn decided<R: Wait>(
+        &self,
+        rt: &R,
+        from: u64,
+        choice: Choice,
+    ) -> Result<Decided, AllocError> {
+        let desk = self.desk.lock(rt);
+        desk.lately.from(self.alloc, &desk.books, from, choice)
     }
 
     /// A line is said beside these.

@@ -7,6 +7,7 @@ use crate::fault::Fault;
 use crate::saying::Saying;
 use driver_script::{MayFail, RunFault, read_input};
 use program_parts::{Disk, Machine, SECOND};
+use std::alloc::AllocError;
 use std::fs::{File, Metadata};
 use std::os::unix::fs::MetadataExt;
 use std::rt::{Files, LibcRuntime};
@@ -192,6 +193,22 @@ pub(crate) fn still_bytes<R: Clock, F: Files + AllocGlobal>(
         return Err(Fault::Written);
     }
     same_bytes(files, path, before)
+}
+
+/// The same as [`steady_bytes`], or why they can't be read, with the file's path.
+pub(crate) fn steady_or_why<R: Clock, F: Files + AllocGlobal>(
+    rt: &R,
+    files: &F,
+    path: &str,
+) -> Result<Result<Vec<u8>, String>, AllocError> {
+    match steady_bytes(rt, files, path) {
+        Ok(bytes) => Ok(Ok(bytes)),
+        Err(Fault::Run(RunFault::NoMemory)) => Err(AllocError),
+        Err(fault) => {
+            let unread = Unread { path, fault };
+            Ok(Err(format!(in files.alloc(); "{unread}")?))
+        }
+    }
 }
 
 /// All bytes of a regular file. Why it can't be read is said on standard error.

@@ -1,9 +1,13 @@
 //! The driver of this process, as its doors use it.
 
 ghost use Rattle.aeron_policyd.specs.Hosting.{Gives, TakesBack, attach_reason, number_in};
+ghost use Rattle.aeron_policyd.specs.Rereading.{ComesOf};
+ghost use Rattle.media_driver.specs.Reloading.{Reloads};
+ghost use Rattle.policy_query.specs.Document.{text_in};
 ghost use Rattle.std.specs.Prelude.{◌≡◌, IfOk, IfSome, Ok};
 
 use crate::connecting::{Entered, Leaving, OwnServed, Tray, run_connection};
+use crate::decided::Choice;
 use crate::files::SharedFiles;
 use crate::keeping::Kept;
 use crate::looks::Looks;
@@ -13,8 +17,9 @@ use driver_service::Reason;
 use media_driver::{AttachFault, DriverNaming, ReloadFault};
 use policy_text::Names;
 use program_parts::Machine;
+use published_registry::Receipt;
 use served_clients::Served;
-use service_doors::{Begun, Entering, Reloaded, Returned, Share};
+use service_doors::{Begun, Decided, Entering, Reloaded, Returned, Share};
 use service_streams::Greeting;
 use std::alloc::{AllocError, Global};
 use std::os::unix::net::UnixStream;
@@ -60,19 +65,30 @@ fn reason_of(fault: AttachFault) -> Reason
     }
 }
 
+/// The text that bytes are; empty where they are none.
+fn text_of(bytes: &[u8]) -> &str
+    ensures { result.now ≡ text_in bytes.now }
+{
+    match str::from_utf8(bytes) {
+        Ok(text) => text,
+        Err(_) => "",
+    }
+}
+
 /// Bytes, which were found to be a policy, are put in force. Why they are not, where they are not.
 fn put_in_force<N: DriverNaming + Send + Sync + 'static, R: Machine>(
     alloc: Global,
     driver: &mut OwnDriver<N, R>,
     names: &Names,
     bytes: &[u8],
-) -> Result<Option<String>, AllocError> {
-    let text = str::from_utf8(bytes).unwrap_or("");
-    match driver.reload(names, text) {
-        Ok(_) => Ok(None),
+) -> Result<Result<Receipt, String>, AllocError>
+    ensures { IfOk result (λ put. IfOk put (λ receipt. Reloads names.now (text_in bytes.now) receipt driver.old driver.new)) }
+{
+    match driver.reload(names, text_of(bytes)) {
+        Ok(receipt) => Ok(Ok(receipt)),
         Err(ReloadFault::NoMemory) => Err(AllocError),
-        Err(ReloadFault::Full) => Ok(Some(String::from_str(alloc, "policy full")?)),
-        Err(ReloadFault::Policy(fault)) => Ok(Some(format!(in alloc; "{fault}")?)),
+        Err(ReloadFault::Full) => Ok(Err(String::from_str(alloc, "policy full")?)),
+        Err(ReloadFault::Policy(fault)) => Ok(Err(format!(in alloc; "{fault}")?)),
     }
 }
 
@@ -237,7 +253,9 @@ impl<N: DriverNaming + Send + Sync + 'static, R: Machine, F: SharedFiles> Daemon
     }
 
     /// What was found in the policy's file is put in force.
-    fn put_in_force(&mut self, sources: &mut Sources, found: Found) -> Reloaded {
+    fn put_in_force(&mut self, sources: &mut Sources, found: Found) -> Reloaded
+        ensures { ComesOf found result self.old.driver self.new.driver sources.old sources.new }
+    {
         let policy = match found {
             Found::Policy(policy) => policy,
             Found::Refused(why) => return Reloaded::Refused(why),
@@ -249,13 +267,18 @@ impl<N: DriverNaming + Send + Sync + 'static, R: Machine, F: SharedFiles> Daemon
         self.looks
             .announce(&self.rt, &policy.names.directory, bytes);
         match put_in_force(self.rt.alloc(), &mut self.driver, names, bytes) {
-            Ok(None) => {
+            Ok(Ok(_)) => {
                 self.looks.entered();
                 Reloaded::InForce(sources.entered(policy))
             }
-            Ok(Some(why)) => Reloaded::Refused(why),
+            Ok(Err(why)) => Reloaded::Refused(why),
             Err(_) => Reloaded::NoMemory,
         }
+    }
+
+    /// What was decided from a number on, for an operator.
+    pub(crate) fn decided(&self, from: u64, choice: u32) -> Result<Decided, AllocError> {
+        self.looks.decided(&self.rt, from, Choice::of(choice))
     }
 
     /// What the driver denied since it was looked at last is said, where it is time to look.

@@ -5,7 +5,9 @@ ghost use Rattle.service_bounds.specs.declared.outcome.Outcome.TheVariants.{Stan
 ghost use Rattle.service_doors.specs.Sharing.{AdmittedBy};
 ghost use Rattle.std.specs.Prelude.{◌≡◌};
 
+use crate::decided::Taken;
 use crate::denials::Denials;
+use crate::moments::now;
 use driver_core::{Refusal, Reply};
 use driver_service::Reason;
 use media_driver::ClientReply;
@@ -120,7 +122,14 @@ fn denied_by<R: Clock + CpuClock + Wait + Copy + Drop>(
     denials: &Arc<Denials>,
     decision: &Decision,
 ) {
-    denials.note(rt, decision);
+    let moment = now(rt).unwrap_or(0);
+    denials.note(
+        rt,
+        Taken {
+            moment,
+            decision: *decision,
+        },
+    );
 }
 
 fn stir_by<R: Clock + CpuClock + Wait + Copy + Drop>(share: &Share<R>) {
@@ -137,8 +146,12 @@ fn now_by<R: Clock + CpuClock + Wait + Copy + Drop>(share: &Share<R>) -> u64 {
 
 impl<R: Clock + CpuClock + Wait + Copy + Drop> Keeper for Kept<R> {
     ghost use Rattle.service_doors.specs.Sharing.{AdmittedBy};
+    ghost use Rattle.std.specs.Prelude.{◌≡◌};
 
     ghost admits = { λ old client given told new. AdmittedBy old.share.usual client given.correlation given.body old.share.heard new.share.heard told };
+
+    // A denial is said, and counts for nothing that the client shares.
+    ghost hears = { λ old decision new. new.share ≡ old.share };
 
     fn admit(&mut self, client: u64, given: &Given) -> Result<(), Reason> {
         admit_by(&mut self.share, client, given)

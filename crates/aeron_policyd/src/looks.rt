@@ -2,13 +2,15 @@
 
 use crate::book::Book;
 use crate::causes::total;
+use crate::decided::{Choice, Taken};
 use crate::denials::Denials;
 use crate::station::OwnDriver;
 use denial_notes::Mark;
-use media_driver::{Agent, Audited, DriverNaming, Miss, Tallies};
+use media_driver::{Agent, Audited, Dated, DriverNaming, Miss, Tallies};
 use policy_query::Document;
 use policy_tools::Directory;
 use program_parts::{Machine, SECOND, ticks};
+use service_doors::Decided;
 use std::alloc::{AllocError, Global};
 use std::sync::Arc;
 use wire_causes::{Cause, Side};
@@ -63,7 +65,9 @@ fn book_of(
 fn note_new<R: Machine>(rt: &R, denials: &Arc<Denials>, mark: &mut Mark, audited: &Audited) -> u64 {
     let fresh = mark.look(audited.dropped, audited.last.as_slice());
     for dated in fresh.came {
-        denials.note(rt, &dated.decision);
+        let Dated { stamp, decision } = *dated;
+        let moment = stamp.moment;
+        denials.note(rt, Taken { moment, decision });
     }
     fresh.passed
 }
@@ -90,6 +94,16 @@ impl Looks {
             Ok(denials) => Ok(denials),
             Err(_) => Err(AllocError),
         }
+    }
+
+    /// What was decided from a number on, for an operator.
+    pub(crate) fn decided<R: Machine>(
+        &self,
+        rt: &R,
+        from: u64,
+        choice: Choice,
+    ) -> Result<Decided, AllocError> {
+        self.denials.decided(rt, from, choice)
     }
 
     /// The policy that bytes are is put in force next. Where there is no memory for its names, its rules are said by number.

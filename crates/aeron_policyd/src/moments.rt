@@ -37,7 +37,7 @@ impl fmt::Display for BadWord<'_> {
 }
 
 /// The machine's moment, in nanoseconds since 1970.
-fn now<C: Clock>(clock: &C) -> Result<u64, Fault> {
+pub(crate) fn now<C: Clock>(clock: &C) -> Result<u64, Fault> {
     match clock.since_1970() {
         Ok(since) => Ok(since.as_nanos().min(LAST) as u64),
         Err(_) => Err(Fault::NoClock),

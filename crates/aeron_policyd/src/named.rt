@@ -1,10 +1,9 @@
 //! The names of principals, with the file that they are from.
 
 use crate::fault::Fault;
-use crate::files::{SharedFiles, Unread, bytes_of, steady_bytes};
+use crate::files::{SharedFiles, bytes_of, steady_or_why};
 use crate::options::owned;
 use crate::saying::{Saying, give_up};
-use driver_script::RunFault;
 use policy_answers::{Origin, refusal};
 use policy_core::Policy;
 use policy_query::Document;
@@ -107,13 +106,9 @@ impl Named {
             }));
         };
         let path = file.as_str();
-        match steady_bytes(rt, files, path) {
+        match steady_or_why(rt, files, path)? {
             Ok(bytes) => again_of(alloc, path, Directory::read(alloc, bytes.as_slice())),
-            Err(Fault::Run(RunFault::NoMemory)) => Err(AllocError),
-            Err(fault) => {
-                let unread = Unread { path, fault };
-                Ok(Err(format!(in alloc; "{unread}")?))
-            }
+            Err(why) => Ok(Err(why)),
         }
     }
 

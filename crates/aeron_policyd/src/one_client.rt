@@ -9,6 +9,7 @@ use crate::fault::Fault;
 use crate::publishing::Publishing;
 use crate::reported::{Notes, Reported};
 use crate::running::try_out;
+use crate::standing::NAKS;
 use crate::station::{Chores, OwnDriver, Station, Ties};
 use crate::strangers::{Bound, Gate, GuardedUdp};
 use crate::subscribing::Subscribing;
@@ -18,6 +19,8 @@ use media_driver::{AttachFault, Backoff, Driver, DriverNaming, MachineClock, Par
 use media_wire::Udp;
 use policy_core::Policy;
 use program_parts::{Disk, Machine};
+use rtrb::{Producer, RingBuffer};
+use std::alloc::Global;
 use std::marker::Brand;
 use std::sync::Arc;
 use std::thread::Parker;
@@ -131,20 +134,23 @@ struct Beginning<R: Machine> {
 
 impl<R: Machine> Beginning<R> {
     /// Sockets of the system, its time, and a gate at which the client is woken.
-    fn new(rt: R, parts: &Parts, gate: Gate, ties: &Ties) -> Result<Beginning<R>, Fault> {
+    fn new(
+        rt: R,
+        parts: &Parts,
+        gate: Gate,
+        ties: &Ties,
+        naks: Producer<i32, Global>,
+    ) -> Result<Beginning<R>, Fault> {
         let wire = gate.around(rt, Udp::new(rt.alloc(), rt, SOCKETS)?);
+        let wire = Reported::new(wire, Arc::try_clone(&ties.notes)?, naks);
         let clock = match MachineClock::start(rt) {
             Ok(clock) => clock,
             Err(fault) => return Err(Fault::Start(StartFault::Clock(fault))),
         };
-        let Ties {
-            notes,
-            bell,
-            drops: _,
-        } = ties.again()?;
+        let bell = Arc::try_clone(&ties.bell)?;
         let inner = Backoff::new(rt, parts.bells()?);
         Ok(Beginning {
-            wire: Reported::new(wire, notes),
+            wire,
             clock,
             gate: Waking::new(inner, AtHome { bell }),
         })
@@ -155,12 +161,15 @@ impl<R: Machine> Beginning<R> {
 fn prepared<R: Machine>(rt: R, parts: &Parts, gate: Gate) -> Result<(Beginning<R>, Ties), Fault> {
     let notes = shared(&rt, Notes::new())?;
     let bell = shared(&rt, Parker::new())?;
+    let drops = gate.drops()?;
+    let (noting, naks) = RingBuffer::new(rt.alloc(), NAKS)?;
     let ties = Ties {
         notes,
         bell,
-        drops: gate.drops()?,
+        drops,
+        naks,
     };
-    let beginning = Beginning::new(rt, parts, gate, &ties)?;
+    let beginning = Beginning::new(rt, parts, gate, &ties, noting)?;
     Ok((beginning, ties))
 }
 

@@ -4,6 +4,7 @@ ghost use Rattle.driver_core.specs.Soundness.{AreSettings};
 ghost use Rattle.std.specs.Prelude.{IfOk};
 
 use crate::fault::Fault;
+use crate::idle_keys::note_idle_keys;
 use crate::saying::give_up;
 use byte_strings::Text;
 use channel_uri::{Address, Channel, Media, UriError, address_of};
@@ -44,7 +45,17 @@ impl fmt::Display for BadOption<'_> {
 
 /// Says what is wrong with an option.
 pub(crate) fn refuse<R: Machine>(rt: &R, option: &'static str, word: &str, why: &str) -> Fault {
-    give_up(rt, &BadOption { option, word, why })
+    match plain_words::plain(rt.alloc(), word) {
+        Ok(word) => give_up(
+            rt,
+            &BadOption {
+                option,
+                word: word.as_str(),
+                why,
+            },
+        ),
+        Err(_) => Fault::NO_MEMORY,
+    }
 }
 
 /// What is wrong with a word `KEY=VALUE` that chooses nothing.
@@ -186,12 +197,16 @@ impl fmt::Display for NoChannel {
     }
 }
 
-/// The channel that a word of the command line is. Why it is none is said on standard error.
+/// The channel that a word of the command line is. Why it is none is said on standard error, and so is which of its keys have no
+/// effect.
 pub(crate) fn channel_of<R: Machine>(rt: &R, word: &str) -> Result<Channel, Fault> {
     match Channel::parse(word) {
-        Ok(channel) => Ok(channel),
+        Ok(channel) => {
+            note_idle_keys(rt, word);
+            Ok(channel)
+        }
         Err(cause) => {
-            let shown = policy_tools::plain(rt.alloc(), word)?;
+            let shown = plain_words::plain(rt.alloc(), word)?;
             Err(give_up(rt, &NoChannel { shown, cause }))
         }
     }

@@ -4,9 +4,11 @@ use crate::fault::Fault;
 use crate::files::bytes_of;
 use crate::moments::{BadWord, at_of, soon_of, usual_moment};
 use crate::named::Named;
-use crate::saying::Saying;
+use crate::saying::{Saying, give_up};
+use crate::vetting::BadCases;
 use crate::{USAGE, print_text};
 use command_line::{Asked, Asking, Question};
+use plain_words::plain;
 use policy_answers::{
     Answer, AskFault, Place, Table, check, check_json, compare, compare_json, decide, decide_json,
     explain, explain_json, find_faults, find_faults_json, rows_text, show, show_json, table_of_all,
@@ -226,7 +228,9 @@ fn print_answer<R: Machine>(rt: &R, answer: &Answer) -> Result<ExitCode, Fault> 
 
 /// Prints which word of the command line is at fault.
 fn refuse<R: Machine>(rt: &R, word: BadWord<'_>) -> Result<ExitCode, Fault> {
-    match eprintln!(rt; "error: {word}\n\nFor more information, try '--help'.") {
+    let alloc = rt.alloc();
+    let why = plain(alloc, format!(in alloc; "{word}")?.as_str())?;
+    match eprintln!(rt; "error: {why}\n\nFor more information, try '--help'.") {
         Ok(()) => Ok(ExitCode::from(USAGE)),
         Err(_) => Err(Fault::WRITE),
     }
@@ -256,15 +260,10 @@ impl fmt::Display for BadQuestion<'_> {
 
 /// Says what is wrong with a file of cases.
 fn refuse_cases<R: Machine>(rt: &R, path: &str, fault: CasesFault) -> Fault {
-    let _ = match fault {
-        CasesFault::BadLine(line, why) => eprintln!(rt; "aeron_policyd: {path}:{line}: {why}"),
-        CasesFault::BadChannel(line, error) => {
-            eprintln!(rt; "aeron_policyd: {path}:{line}: invalid channel: {error}")
-        }
-        CasesFault::NotText => eprintln!(rt; "aeron_policyd: {path}: not UTF-8"),
-        CasesFault::NoMemory => return Fault::NO_MEMORY,
-    };
-    Fault::Said
+    match fault {
+        CasesFault::NoMemory => Fault::NO_MEMORY,
+        _ => give_up(rt, &BadCases { path, fault }),
+    }
 }
 
 /// Why a word is no channel, where it was to be one.
@@ -295,7 +294,13 @@ fn name_fault<R: Machine>(rt: &R, saying: Saying, asked: &Asked<'_>, fault: AskF
         _ => return Fault::Ask(fault),
     };
     let cause = with_cause(fault);
-    saying.give_up(rt, &fault, &BadQuestion { word, cause })
+    match plain(rt.alloc(), word) {
+        Ok(word) => {
+            let word = word.as_str();
+            saying.give_up(rt, &fault, &BadQuestion { word, cause })
+        }
+        Err(_) => Fault::NO_MEMORY,
+    }
 }
 
 /// How a fault of a question is said. The answers to `check` and `decide` are read by other programs too.

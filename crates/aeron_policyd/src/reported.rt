@@ -1,13 +1,16 @@
 //! A wire that notes that a stream was announced to nobody, and the least position that was reported. A look at the log may come
 //! after both, and after further reports, of which the log keeps the greatest: it is the first that says whether a subscriber goes
-//! on where it was.
+//! on where it was. It also notes in which streams something is asked for again: a look at an image does not show that it lacks
+//! anything.
 
 ghost use Rattle.media_wire.specs.Events.{Event};
 ghost use Rattle.std.specs.Prelude.{List};
 
 use channel_uri::Address;
-use frame_codec::{Datagram, Packet, Setup, StatusMessage, position};
+use frame_codec::{Datagram, Nak, Packet, Setup, StatusMessage, position};
 use media_wire::{Wire, WireFault};
+use rtrb::Producer;
+use std::alloc::Global;
 use std::sync::Arc;
 use std::sync::atomic::{AtomicU64, Ordering};
 
@@ -102,6 +105,8 @@ struct Noted {
     begun: bool,
     /// Whether one was asked for since the last round.
     asked: bool,
+    /// Takes the session of each NAK that is sent, as long as there is room.
+    naks: Producer<i32, Global>,
 }
 
 impl Noted {
@@ -118,14 +123,21 @@ impl Noted {
         self.from = Some(*local);
     }
 
-    /// A datagram is sent. A SETUP has this length.
+    /// A datagram is sent. A SETUP and a NAK have these lengths.
     fn send(&mut self, local: &Address, bytes: &[u8]) {
-        if bytes.len() != Setup::SIZE {
+        if bytes.len() != Setup::SIZE && bytes.len() != Nak::SIZE {
             return;
         }
-        if let Ok(Packet::Setup(setup)) = Datagram::read(bytes) {
-            self.begin(local, &setup);
-            self.setup = Some(setup);
+        match Datagram::read(bytes) {
+            Ok(Packet::Setup(setup)) => {
+                self.begin(local, &setup);
+                self.setup = Some(setup);
+            }
+            Ok(Packet::Nak(nak)) => {
+                // a gap that stands is asked for again
+                let _ = self.naks.push(nak.session_id);
+            }
+            _ => {}
         }
     }
 
@@ -165,7 +177,7 @@ pub(crate) struct Reported<W> {
 }
 
 impl<W> Reported<W> {
-    pub(crate) fn new(wire: W, notes: Arc<Notes>) -> Reported<W> {
+    pub(crate) fn new(wire: W, notes: Arc<Notes>, naks: Producer<i32, Global>) -> Reported<W> {
         Reported {
             wire,
             noted: Noted {
@@ -174,6 +186,7 @@ impl<W> Reported<W> {
                 from: None,
                 begun: false,
                 asked: false,
+                naks,
             },
         }
     }

@@ -1,9 +1,15 @@
 //! The policy's file, which is read again by a thread of its own: no slow disk and no long text holds up the driver's doors.
 
+ghost use Rattle.aeron_policyd.specs.Rereading.{IsVetted};
+ghost use Rattle.aeron_policyd.specs.Vetting.{keeps};
+ghost use Rattle.std.specs.Prelude.{◌≡◌, IfOk, List, Some, false, is_some, option_map, true, ℕ};
+
 use crate::connecting::Tray;
 use crate::fault::Fault;
-use crate::files::{SharedFiles, Unread, steady_bytes};
+use crate::files::{SharedFiles, Unread, steady_bytes, steady_or_why};
+use crate::moments::now;
 use crate::named::Named;
+use crate::vetting::{Wanted, why_unkept};
 use media_driver::DriverNaming;
 use policy_answers::{AskFault, compare, refusal};
 use policy_query::Document;
@@ -18,6 +24,8 @@ use std::{mem, thread};
 #[derive(Drop)]
 pub(crate) struct Sources {
     path: String,
+    /// The file of cases that each policy has to keep, if there is one.
+    cases: Option<String>,
     /// The bytes that were read last.
     text: Vec<u8>,
     /// Those that are in force, and their number.
@@ -72,17 +80,14 @@ struct Reading<N: DriverNaming, R: Clock + CpuClock + Wait + Copy + Drop, F: Fil
     is_asked: bool,
 }
 
-/// What would be decided otherwise under a new policy now, in lines; nothing where that can't be said.
+/// What would be decided otherwise under a new policy at a moment, in lines; nothing where that can't be said.
 fn changes<R: Machine>(
     rt: &R,
     sources: &Sources,
     new: &Document<'_>,
     names: &Named,
+    moment: u64,
 ) -> Result<String, AllocError> {
-    let moment = match rt.since_1970() {
-        Ok(since) => since.as_nanos().min(i64::MAX as u128) as u64,
-        Err(_) => 0,
-    };
     let old = Document::read(rt.alloc(), sources.in_force.as_slice())?;
     match compare(rt.alloc(), &old, new, &names.directory, moment) {
         Ok(answer) => Ok(String::from_str(rt.alloc(), answer.text.as_str())?),
@@ -91,7 +96,27 @@ fn changes<R: Machine>(
     }
 }
 
-/// Why the bytes are no policy, where they are none.
+/// Why the document is no policy, or does not keep the cases at a moment; nothing where it is one that keeps them.
+fn why_refused<R: Machine>(
+    rt: &R,
+    path: &str,
+    document: &Document<'_>,
+    names: &Named,
+    wanted: Option<Wanted<'_>>,
+    moment: u64,
+) -> Result<Option<String>, AllocError>
+    ensures { IfOk result (λ why. (cases : List ℕ) → option_map (λ w. w.bytes.now) wanted.entry ≡ Some cases → is_some why ≡ false → keeps names.now.directory document.now cases moment ≡ true) }
+{
+    if let Some(why) = why_not(rt, path, document, names)? {
+        return Ok(Some(why));
+    }
+    match wanted {
+        Some(wanted) => why_unkept(rt.alloc(), wanted, document, &names.directory, moment),
+        None => Ok(None),
+    }
+}
+
+/// Why the document is no policy, where it is none.
 fn why_not<R: Machine>(
     rt: &R,
     path: &str,
@@ -105,17 +130,24 @@ fn why_not<R: Machine>(
 }
 
 impl Sources {
-    /// The policy that was read from that file is in force, as the first.
+    /// The policy that was read from that file is in force, as the first. Each later one has to keep the cases of that file, if there
+    /// is one.
     pub(crate) fn new(
         alloc: Global,
         path: &str,
+        cases: Option<&str>,
         text: Vec<u8>,
         names: Named,
     ) -> Result<Sources, AllocError> {
         let path = String::from_str(alloc, path)?;
+        let cases = match cases {
+            Some(cases) => Some(String::from_str(alloc, cases)?),
+            None => None,
+        };
         let in_force = Vec::from_slice(alloc, text.as_slice())?;
         Ok(Sources {
             path,
+            cases,
             text,
             in_force,
             epoch: 1,
@@ -123,25 +155,58 @@ impl Sources {
         })
     }
 
-    /// What bytes of the file are.
+    /// What bytes of the file are at a moment, under these names and cases.
     fn found_in<R: Machine>(
         &self,
         rt: &R,
         bytes: &[u8],
         names: Named,
-    ) -> Result<Found, AllocError> {
+        wanted: Option<Wanted<'_>>,
+        moment: u64,
+    ) -> Result<Found, AllocError>
+        ensures { IfOk result (λ found. IsVetted bytes.now names.directory (option_map (λ w. w.bytes.now) wanted.entry) moment found) }
+    {
+        let path = self.path.as_str();
         let document = Document::read(rt.alloc(), bytes)?;
-        if let Some(why) = why_not(rt, self.path.as_str(), &document, &names)? {
+        if let Some(why) = why_refused(rt, path, &document, &names, wanted, moment)? {
             return Ok(Found::Refused(why));
         }
         let epoch = self.epoch.saturating_add(1);
-        let changes = changes(rt, self, &document, &names)?;
+        let changes = changes(rt, self, &document, &names, moment)?;
         let changes = changes.as_str().trim_end();
         Ok(Found::Policy(NewPolicy {
             bytes: Vec::from_slice(rt.alloc(), bytes)?,
             names,
             said: format!(in rt.alloc(); "policy {epoch} in force\n{changes}")?,
         }))
+    }
+
+    /// What bytes of the file are now, under these names, and under the cases that their file has now.
+    fn vetted<R: Machine, F: SharedFiles>(
+        &self,
+        rt: &R,
+        files: &F,
+        bytes: &[u8],
+        names: Named,
+    ) -> Result<Found, AllocError> {
+        let moment = match now(rt) {
+            Ok(moment) => moment,
+            Err(fault) => return Ok(Found::Refused(format!(in rt.alloc(); "{fault}")?)),
+        };
+        let Some(cases) = &self.cases else {
+            return self.found_in(rt, bytes, names, None, moment);
+        };
+        let path = cases.as_str();
+        match steady_or_why(rt, files, path)? {
+            Ok(cases) => {
+                let wanted = Wanted {
+                    path,
+                    bytes: cases.as_slice(),
+                };
+                self.found_in(rt, bytes, names, Some(wanted), moment)
+            }
+            Err(why) => Ok(Found::Refused(why)),
+        }
     }
 
     /// What new bytes of the file are, by the names that its file has now.
@@ -152,7 +217,7 @@ impl Sources {
         bytes: Vec<u8>,
     ) -> Result<Found, AllocError> {
         let found = match self.names.again(rt, files)? {
-            Ok(names) => self.found_in(rt, bytes.as_slice(), names)?,
+            Ok(names) => self.vetted(rt, files, bytes.as_slice(), names)?,
             Err(why) => Found::Refused(why),
         };
         self.text = bytes;
@@ -181,7 +246,9 @@ impl Sources {
     }
 
     /// What was found is in force. What there is to say of that.
-    pub(crate) fn entered(&mut self, policy: NewPolicy) -> String {
+    pub(crate) fn entered(&mut self, policy: NewPolicy) -> String
+        ensures { self.new.in_force ≡ policy.bytes }
+    {
         let NewPolicy { bytes, names, said } = policy;
         self.in_force = bytes;
         self.names = names;

@@ -120,6 +120,10 @@ fn happen<N: DriverNaming + Send + Sync + 'static, R: Machine, F: SharedFiles>(
                 hall.tell_reload(refused, &came);
             }
         }
+        Event::Reads(operator, from, choice) => match daemon.decided(from, choice) {
+            Ok(decided) => hall.tell_decided(operator, Some(&decided)),
+            Err(_) => hall.tell_decided(operator, None),
+        },
         Event::Due => {
             let _ = daemon.ask(None);
         }

@@ -23,17 +23,21 @@ use crate::serving::{Work as Serve, serve_clients};
 use crate::station::Chores;
 use crate::strangers::{self, Bound, GREATEST, bound_by, window_on};
 use crate::subscribing::Subscribing;
+use crate::usual::{
+    lingering_settings, publishing_settings, repeating_settings, reporting_settings,
+    subscribing_settings,
+};
+use crate::vetting::keep;
 use channel_uri::Address;
 use command_line::{Doors, Join, Order, Reading, Start, Talk};
 use driver_core::{Peer, Settings};
 use piped_messages::Cut;
 use policy_core::Policy;
 use policy_text::Names;
-use policy_tools::plain;
 use program_parts::{Disk, Log, Machine, SECOND};
 use service_doors::{AskedBounds, Plan, Serving, Usual, mode_in, place_in};
 use service_records::Request;
-use service_remote::{Offering, Wanted, print_counters, print_order};
+use service_remote::{Offering, Wanted, Watched, print_counters, print_order, watch_decisions};
 use std::net::{Ipv4Addr, SocketAddrV4, UdpSocket};
 use std::sync::Arc;
 use wire_causes::Side;
@@ -64,12 +68,21 @@ fn drawn<R: Machine>(rt: &R) -> i32 {
     }
 }
 
+/// The settings that words choose, where a driver recovers sooner from losses than the rules' own defaults have it.
+fn recovering<R: Machine>(rt: &R, words: &[&str]) -> Result<Settings, Fault>
+    ensures { IfOk result (λ settings. AreSettings settings) }
+{
+    let settings = settings_of(rt, words)?;
+    let settings = repeating_settings(chooses(words, "nak-repeat"), settings);
+    Ok(lingering_settings(chooses(words, "resend-linger"), settings))
+}
+
 /// The settings of a driver that sends from this address where no other is chosen, and whose sessions begin at a number of
 /// this start's own.
 fn settings_for<R: Machine>(rt: &R, words: &[&str], from: Address) -> Result<Settings, Fault>
     ensures { IfOk result (λ settings. AreSettings settings) }
 {
-    let mut settings = settings_of(rt, words)?;
+    let mut settings = recovering(rt, words)?;
     if !chooses(words, "send-address") {
         settings.send_address = from;
     }
@@ -193,7 +206,10 @@ fn publish<R: Machine, F: Disk>(
     let channel = reaching(rt, talk.channel)?;
     let control = control_of(&channel);
     let address = publisher_address(control.or(channel.endpoint()).or(first));
-    let settings = settings_for(rt, talk.settings, address)?;
+    let settings = publishing_settings(
+        chooses(talk.settings, "term-length"),
+        settings_for(rt, talk.settings, address)?,
+    );
     can_open(rt, settings.send_address)?;
     let mut side = Side::Sends;
     if let Some(control) = control {
@@ -229,6 +245,7 @@ fn subscribe<R: Machine, F: Disk>(
     let mut subscribing = Subscribing {
         channel: owned(rt.alloc(), talk.channel)?,
         stream: talk.stream,
+        endpoint: None,
         join: None,
         count: reading.count,
         form: reading.form,
@@ -237,16 +254,23 @@ fn subscribe<R: Machine, F: Disk>(
         fail_on_gap: talk.fail_on_gap,
         wait: seconds(reading.wait),
         status_interval: 0,
+        image_liveness: 0,
     };
     let endpoint = reaching(rt, talk.channel)?.endpoint();
     let join = elicitation_of(rt, join, endpoint, talk.stream)?;
-    let mut settings = settings_for(rt, talk.settings, NO_PUBLISHER)?;
+    let settings = reporting_settings(
+        chooses(talk.settings, "status-interval"),
+        settings_for(rt, talk.settings, NO_PUBLISHER)?,
+    );
+    let mut settings = subscribing_settings(chooses(talk.settings, "arena-pages"), settings);
     settings.send_address = NO_PUBLISHER;
     if let Some(endpoint) = endpoint {
         can_open(rt, endpoint)?;
     }
+    subscribing.endpoint = endpoint;
     subscribing.join = join;
     subscribing.status_interval = settings.status_interval;
+    subscribing.image_liveness = settings.image_liveness;
     let task = Task::Subscribe(subscribing);
     let side = Side::Receives;
     begin(rt, files, talk, Saying::Placed, settings, side, task)
@@ -312,8 +336,7 @@ fn plans_of<'a, R: Machine>(
     let mut plans = Vec::new(rt.alloc());
     for word in words {
         let Some((name, place)) = place_in(word) else {
-            let shown = plain(rt.alloc(), word)?;
-            return Err(refuse(rt, "--door", shown.as_str(), DOOR));
+            return Err(refuse(rt, "--door", word, DOOR));
         };
         let Some(principal) = names.number_of(name) else {
             return Err(refuse(rt, "--door", word, "unknown principal"));
@@ -435,9 +458,10 @@ fn orders_of<'a, R: Machine, F: Disk>(
     let names = Named::read(rt, files, saying, doors.names)?;
     let text = regular_bytes_of(rt, files, saying, doors.policy)?;
     let policy = names.policy(rt, saying, doors.policy, text.as_slice())?;
+    keep(rt, files, &names, text.as_slice(), doors.cases)?;
     let book = Book::of(alloc, &names.directory, &policy, 1)?;
     let (bound, plans) = ways_in(rt, names.directory.names(), doors)?;
-    let sources = Sources::new(alloc, doors.policy, text, names)?;
+    let sources = Sources::new(alloc, doors.policy, doors.cases, text, names)?;
     let shelf = Shelf::new(alloc, sources)?;
     Ok(Orders {
         policy,
@@ -551,6 +575,19 @@ pub(crate) fn start<R: Machine, F: Disk + SharedFiles>(
         Start::Serve { doors } => serve(rt, files, &doors),
         Start::Stat { driver, every } => {
             Ok(print_counters(rt, files, driver, every.map(seconds))?)
+        }
+        Start::Decisions {
+            driver,
+            denied,
+            follow,
+            json,
+        } => {
+            let watched = Watched {
+                denied,
+                json,
+                follow,
+            };
+            Ok(watch_decisions(rt, files, driver, watched)?)
         }
         Start::Order { driver, order } => give_order(rt, files, driver, order),
     }

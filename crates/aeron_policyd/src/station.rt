@@ -16,7 +16,8 @@ use piped_messages::Losses;
 use policy_answers::refusal;
 use policy_query::Document;
 use program_parts::{Disk, Machine, SECOND, pause_until, report, ticks};
-use std::alloc::AllocError;
+use rtrb::Consumer;
+use std::alloc::{AllocError, Global};
 use std::str;
 use std::sync::Arc;
 use std::thread::Parker;
@@ -68,17 +69,8 @@ pub(crate) struct Ties {
     pub(crate) bell: Arc<Parker>,
     /// What is dropped at its sockets.
     pub(crate) drops: Arc<Drops>,
-}
-
-impl Ties {
-    /// The same once more.
-    pub(crate) fn again(&self) -> Result<Ties, AllocError> {
-        Ok(Ties {
-            notes: Arc::try_clone(&self.notes)?,
-            bell: Arc::try_clone(&self.bell)?,
-            drops: Arc::try_clone(&self.drops)?,
-        })
-    }
+    /// The sessions in which something was asked for again, once for each time.
+    pub(crate) naks: Consumer<i32, Global>,
 }
 
 /// A driver with its one client.

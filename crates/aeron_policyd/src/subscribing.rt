@@ -1,7 +1,9 @@
 //! `subscribe`: the messages that come are printed.
 
 use crate::fault::Fault;
+use crate::standing::Watch;
 use crate::station::{Naks, Station};
+use channel_uri::Address;
 use driver_core::Reply;
 use log_steps::FragmentCopies;
 use media_driver::{ClientReply, DriverNaming, Elicitation, PollFault};
@@ -24,6 +26,8 @@ const REPORTS: u64 = 4;
 pub(crate) struct Subscribing {
     pub(crate) channel: String,
     pub(crate) stream: i32,
+    /// Where it is read, if the channel says so.
+    pub(crate) endpoint: Option<Address>,
     /// Which publication is asked to send here, if one is.
     pub(crate) join: Option<Elicitation>,
     /// It ends after so many messages, if a number is given.
@@ -39,6 +43,8 @@ pub(crate) struct Subscribing {
     pub(crate) wait: u64,
     /// How long it takes at most until a publisher learns how far this subscriber has come, in nanoseconds.
     pub(crate) status_interval: u64,
+    /// How long the publisher of an image may be silent, and a gap in one may stand, in nanoseconds.
+    pub(crate) image_liveness: u64,
 }
 
 /// What a reply says of the streams of a subscription.
@@ -49,7 +55,12 @@ enum Word {
 }
 
 /// What a reply says of the streams of this subscription. They are changed by it.
-fn note(images: &mut Images, alloc: Global, reply: &ClientReply, of: u64) -> Result<Word, Fault> {
+fn note(
+    images: &mut Images,
+    watch: &mut Watch,
+    alloc: Global,
+    reply: &ClientReply,
+) -> Result<Word, Fault> {
     match reply {
         ClientReply::Of(
             Reply::AvailableImage {
@@ -57,9 +68,11 @@ fn note(images: &mut Images, alloc: Global, reply: &ClientReply, of: u64) -> Res
                 subscription,
                 session,
                 position,
+                identity,
                 ..
             },
-        ) if *subscription == of => {
+        ) if *subscription == watch.subscription => {
+            watch.add(*source, *session, *position, identity)?;
             Ok(Word::Came(images.add(alloc, *source, *session, *position)?))
         }
         ClientReply::Of(
@@ -68,13 +81,19 @@ fn note(images: &mut Images, alloc: Global, reply: &ClientReply, of: u64) -> Res
                 subscription,
                 ..
             },
-        ) if *subscription == of => {
+        ) if *subscription == watch.subscription => {
+            watch.remove(*source);
             images.remove(*source);
             Ok(Word::Went)
         }
         ClientReply::Of(Reply::ClientTimeout { .. }) => Err(Fault::Closed),
         _ => Ok(Word::Nothing),
     }
+}
+
+/// Whether it ends since all streams are gone, and none comes back.
+fn is_over(images: &Images, watch: &Watch, asked: &Subscribing, now: u64) -> bool {
+    asked.until_gone && images.are_gone() && !watch.awaits(now)
 }
 
 /// Fragments of a stream are joined to messages. Whether there were any.
@@ -110,15 +129,15 @@ impl<N: DriverNaming + Send + Sync + 'static, R: Machine, F: Disk> Station<N, R,
     fn take_replies(
         &mut self,
         images: &mut Images,
+        watch: &mut Watch,
         asked: &Subscribing,
-        of: u64,
     ) -> Result<(), Fault> {
         let rt = self.rt;
         for _ in rt.forever() {
             let Some(reply) = self.next_reply() else {
                 return Ok(());
             };
-            match note(images, rt.alloc(), &reply, of)? {
+            match note(images, watch, rt.alloc(), &reply)? {
                 Word::Went => report(&rt, "image gone"),
                 Word::Came(Some(gap)) => {
                     let _ = eprintln!(rt; "{gap}");
@@ -187,19 +206,19 @@ impl<N: DriverNaming + Send + Sync + 'static, R: Machine, F: Disk> Station<N, R,
         images: &mut Images,
         inbox: &mut Inbox,
         output: &mut Output,
+        watch: &mut Watch,
         asked: &Subscribing,
-        of: u64,
     ) -> Result<(), Fault> {
         let rt = self.rt;
         let end = self.now().saturating_add(asked.until.unwrap_or(u64::MAX));
         let mut idle = 0u32;
         for _ in rt.forever() {
-            self.take_replies(images, asked, of)?;
+            self.take_replies(images, watch, asked)?;
             let now = self.now();
             if !inbox.is_empty() {
                 pause(&rt, idle);
                 idle = idle.saturating_add(1);
-            } else if self.poll_all(images, inbox, of)? {
+            } else if self.poll_all(images, inbox, watch.subscription)? {
                 idle = 0;
             } else {
                 self.pause(idle);
@@ -207,9 +226,10 @@ impl<N: DriverNaming + Send + Sync + 'static, R: Machine, F: Disk> Station<N, R,
             }
             inbox.hand_on(rt.alloc(), output);
             output.watch(&rt, now)?;
-            if inbox.left == 0 || now >= end || (asked.until_gone && images.are_gone()) {
+            if inbox.left == 0 || now >= end || is_over(images, watch, asked, now) {
                 return Ok(());
             }
+            self.look_for_gaps(images, watch, asked, now)?;
             if self.tend()? {
                 self.print_received(inbox, images.rows.len());
             }
@@ -255,9 +275,10 @@ impl<N: DriverNaming + Send + Sync + 'static, R: Machine, F: Disk> Station<N, R,
             self.driver.elicit(join)?;
         }
         let mut images = Images::new(rt.alloc());
+        let mut watch = Watch::new(rt.alloc(), subscription, asked.image_liveness);
         let mut inbox = Inbox::new(rt.alloc(), asked.form, asked.count);
         let mut output = Output::open(rt, self.now(), asked.wait)?;
-        let received = self.receive(&mut images, &mut inbox, &mut output, asked, subscription);
+        let received = self.receive(&mut images, &mut inbox, &mut output, &mut watch, asked);
         let printed = self.print_rest(&mut inbox, &mut output);
         self.say_causes();
         self.print_received(&inbox, images.rows.len());

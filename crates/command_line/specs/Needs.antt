@@ -78,6 +78,7 @@ serving_needs =
     ∷ (codes "stop", texts_alone (codes "driver" ∷ []))
     ∷ (codes "reload", texts_alone (codes "driver" ∷ []))
     ∷ (codes "clients", texts_alone (codes "driver" ∷ []))
+    ∷ (codes "decisions", texts_alone (codes "driver" ∷ []))
     ∷ []
 
 abbrev pub run_needs : Needs

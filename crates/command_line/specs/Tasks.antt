@@ -69,7 +69,7 @@ joined_texts join = (codes "control", option_map (λ j. j.control.now) join) ∷
 abbrev pub doors_texts : Doors → Texts
 doors_texts doors =
     (codes "policy", Some doors.policy.now) ∷ (codes "names", option_copied doors.names)
-    ∷ (codes "folder", Some doors.folder.now) ∷ (codes "mode", Some doors.mode.now)
+    ∷ (codes "cases", option_copied doors.cases) ∷ (codes "folder", Some doors.folder.now) ∷ (codes "mode", Some doors.mode.now)
     ∷ (codes "strangers", option_copied doors.strangers) ∷ []
 
 abbrev pub start_texts : Start → Texts
@@ -79,6 +79,7 @@ start_texts (starts.Publish talk by wait linger to) = talk_texts talk
 start_texts (starts.Subscribe talk join reading) = joined_texts join ++ talk_texts talk
 start_texts (starts.Serve doors) = doors_texts doors
 start_texts (starts.Stat driver every) = (codes "driver", Some driver.now) ∷ []
+start_texts (starts.Decisions driver denied follow json) = (codes "driver", Some driver.now) ∷ []
 start_texts (starts.Order driver order) = (codes "driver", Some driver.now) ∷ []
 
 abbrev pub task_texts : Task → Texts
@@ -104,6 +105,7 @@ start_numbers (starts.Publish talk by wait linger to) = stream_alone talk.stream
 start_numbers (starts.Subscribe talk join reading) = joined_numbers join ++ stream_alone talk.stream
 start_numbers (starts.Serve doors) = []
 start_numbers (starts.Stat driver every) = []
+start_numbers (starts.Decisions driver denied follow json) = []
 start_numbers (starts.Order driver order) = []
 
 abbrev pub task_numbers : Task → Numbers
@@ -152,6 +154,7 @@ start_name (starts.Publish talk by wait linger to) = codes "publish"
 start_name (starts.Subscribe talk join reading) = codes "subscribe"
 start_name (starts.Serve doors) = codes "serve"
 start_name (starts.Stat driver every) = codes "stat"
+start_name (starts.Decisions driver denied follow json) = codes "decisions"
 start_name (starts.Order driver order) = order_name order
 
 abbrev pub task_name : Task → List ℕ

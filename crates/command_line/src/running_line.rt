@@ -386,15 +386,15 @@ in k, m or g of 1,024, 1,024^2 and 1,024^3 bytes. In an address `localhost` is 1
   linger                how long a publication stays after its last registration was removed; 5s
   connection-timeout    how long a status message keeps a publication connected; above 0; 5s
   destination-timeout   how long one keeps a subscriber that was learnt; above 0; 5s
-  resend-linger         how long a range that was resent is not resent again; 60ms
+  resend-linger         how long a range that was resent is not resent again; 9ms
   nak-delay             how long a gap stands before it is asked for; 1ms
-  nak-repeat            how long until it is asked for again; above 0; 60ms
+  nak-repeat            how long until it is asked for again; above 0; 10ms
   setup-interval        from one SETUP to the next; above 0; 100ms
   heartbeat-interval    how long a sender is silent before a heartbeat; above 0; 100ms
-  status-interval       from one status message to the next; above 0; 200ms
-  term-length           a power of two from 64k to 16m, where a channel names none; 64k
+  status-interval       from one status message to the next; above 0; 200ms, with subscribe 50ms
+  term-length           a power of two from 64k to 16m, where a channel names none; 1m, with serve 64k
   mtu                   a multiple of 32 from 64 to 65504, where a channel names none; 1408
-  arena-pages           how many pages of 4 KiB all logs share, 1 to 65536; 4096
+  arena-pages           how many pages of 4 KiB all logs share, 1 to 65536; 4096, with subscribe 16384
   images-per-source     how many images one source address may have open, 1 to 512; 512
   first-session         the first session, of 32 bits; drawn at each start
   initial-term          the first term id, of 32 bits; 0
@@ -460,7 +460,9 @@ second:
   received 2 messages 10 bytes position 128 images 1 naks 0 resent 0 bad 0 failed 0
 
 A stream that was read before and comes back further on has lost what is between: `gap: session S, N bytes from P lost` says so,
-what comes after it is printed, and the status is 3 in the end, or with --fail-on-gap at once. Other lines say, each once, which
+what comes after it is printed, and the status is 3 in the end, or with --fail-on-gap at once. Where bytes are asked for and do
+not come for `image-liveness`, `gap: session S, bytes from P not retransmitted` says so, and the subscription is made anew, to
+read on from where the publisher announces its stream again; the status is as after the other gap. Other lines say, each once, which
 SETUP is denied by which rule, is for no subscription or opens no image, and what came that is invalid. A subscriber takes no more
 than it prints. Where standard output takes nothing it waits, and its publisher in the end; after --wait seconds a line says so.
 
@@ -580,6 +582,16 @@ pub enum Start<'a> {
         driver: &'a str,
         /// After how many seconds they are printed again, if they are.
         every: Option<u64>,
+    },
+    /// To print what a driver that serves decided.
+    Decisions {
+        driver: &'a str,
+        /// Denials alone.
+        denied: bool,
+        /// Also what is decided from then on.
+        follow: bool,
+        /// Each as JSON.
+        json: bool,
     },
     /// To tell a driver that serves what to do.
     Order {

@@ -1,4 +1,5 @@
-//! The words of `serve`, and of the subcommands that speak to a driver that serves: `stat`, `stop`, `reload` and `clients`.
+//! The words of `serve`, and of the subcommands that speak to a driver that serves: `stat`, `stop`, `reload`, `clients` and
+//! `decisions`.
 
 ghost use Rattle.clap.specs.Words.{found_of};
 ghost use Rattle.command_line.specs.Needs.{Answers, HasAll, HasText, serve_needs, serving_needs};
@@ -7,7 +8,7 @@ ghost use Rattle.std.specs.Prelude.{◌≡◌, [], IfSome, codes, is_some, true}
 
 use crate::numbers::number_in;
 use crate::policy_words;
-use crate::rows::{AGAIN, Form, OPTION, Row, SECONDS, UP_TO_BILLION};
+use crate::rows::{AGAIN, FLAG, Form, OPTION, Row, SECONDS, UP_TO_BILLION};
 use crate::running_line::{ASKS, PEER, POLICY, RELOAD_EVERY, SETTING, STRANGERS, Start};
 use clap::ArgMatches;
 use clap::builder::ValueParser;
@@ -33,6 +34,14 @@ const DOOR: Row = Row {
 const NAMES: Row = Row {
     value: &["NAMES"],
     ..policy_words::NAMES
+};
+
+/// The file of cases that each policy has to keep.
+const CASES: Row = Row {
+    id: "cases",
+    value: &["CASES"],
+    help: "Cases that each policy has to keep, as `test` reads them",
+    ..OPTION
 };
 
 /// The mode of a socket that is named by its path.
@@ -120,6 +129,7 @@ pub(crate) const SERVE: Form = Form {
         FOLDER,
         DOOR,
         NAMES,
+        CASES,
         MODE,
         SETTING,
         PEER,
@@ -157,7 +167,13 @@ Each --door makes a Unix socket in the folder, named after the principal, and gi
   p1=/run/p1/bus   that path, in a folder that is there, with the mode of --mode; who may search the folder is the system's to
                    say. For a driver that may give no file away
 
-operator.sock is for the user who starts the driver: `stop`, `reload` and `clients` speak to it. Nobody else may be able to
+With --cases each policy has to keep the cases of a file, as `test` reads them and at the moment at which it is to be in force. A
+driver does not start under one that fails a case, and a reload, which reads the cases again, then changes nothing:
+
+  $ aeron_policyd serve --policy policy.toml --cases wanted.cases --folder /no/such/folder --door p1
+  aeron_policyd: wanted.cases: line 5: p2 subscribe aeron:ipc 10 deny by default: denied by rule 1 in policy 1
+
+operator.sock is for the user who starts the driver: `stop`, `reload`, `clients` and `decisions` speak to it. Nobody else may be able to
 write in the folder. Where another driver answers at a socket, this one gives up.
 
 The folder of each socket is root's or the driver's own user's, and nobody else may write there; in a folder above it others may,
@@ -185,10 +201,10 @@ dropped is a line at its end.
 The settings are those of `publish --help`. With --names FILE the policy, the doors and the peers have the names of that file,
 which a reload reads again.
 
-Status: 0 after `stop`; 1 after `aeron_policyd: FAULT` on standard error; 2 for a usage error. Faults are those of `run`, and: no
-folder FOLDER; folder FOLDER belongs to user USER; others may write in FOLDER; another driver serves there; PRINCIPAL has two
-doors; PATH is there, and is no socket; cannot make a socket at PATH; cannot give PATH to its owner; what is wrong with a --door or
-with --mode.",
+Status: 0 after `stop`; 1 after `aeron_policyd: FAULT` on standard error; 2 for a usage error. Faults are those of `run`, and: the
+first case that fails, or what is wrong with the cases; no folder FOLDER; folder FOLDER belongs to user USER; others may write in
+FOLDER; another driver serves there; PRINCIPAL has two doors; PATH is there, and is no socket; cannot make a socket at PATH; cannot
+give PATH to its owner; what is wrong with a --door or with --mode.",
 };
 
 /// `stat`.
@@ -244,8 +260,9 @@ Example: no driver serves at that socket.
   aeron_policyd: no driver serves there
 
 Where one does, the policy's file is read again and put in force. It prints `policy 2 in force`, and then what
-`aeron_policyd diff` says of the policy before and of this one now. Where the file is at fault, the policy in force stays. It is
-read once it stood still for a second: write a new one beside it, and rename it with mv.
+`aeron_policyd diff` says of the policy before and of this one now. Where the file is at fault, or the policy fails a case of
+`serve --cases`, the policy in force stays. It is read once it stood still for a second: write a new one beside it, and rename it
+with mv.
 
 Status: 0 where the policy is in force; 1 after `aeron_policyd: FAULT` on standard error; 2 for a usage error.",
 };
@@ -267,6 +284,53 @@ Where one does, it prints a line for each connection, as `client 4 of p2 for 12 
 Status: 0; 1 after `aeron_policyd: FAULT` on standard error; 2 for a usage error.",
 };
 
+/// Whether denials alone are printed.
+const DENIED: Row = Row {
+    id: "denied",
+    help: "Prints denials alone",
+    ..FLAG
+};
+
+/// Whether what is decided from then on is printed too.
+const FOLLOW: Row = Row {
+    id: "follow",
+    help: "Goes on with what is decided from now on",
+    ..FLAG
+};
+
+/// Whether each is JSON.
+const JSON: Row = Row {
+    id: "json",
+    help: "Prints each as JSON, on one line",
+    ..FLAG
+};
+
+/// `decisions`.
+pub(crate) const DECISIONS: Form = Form {
+    name: "decisions",
+    about: "Prints what a driver that serves decided",
+    places: &[],
+    options: &[DRIVER, DENIED, FOLLOW, JSON],
+    after: "\
+Example: no driver serves at that socket.
+
+  $ aeron_policyd decisions --driver /no/such/operator.sock
+  aeron_policyd: no driver serves there
+
+Where one does, it prints a line for each of the last 4,096 decisions, as
+`2026-12-01T08:00:00.25Z p2: publish on stream 10 denied by rule 3 \"desk alone\" in policy 1`. With --denied the lines are the last
+4,096 denials. With --follow it goes on with what is decided, within half a second, until the driver ends.
+
+A line is of a command, of a pair of a log and a subscription that comes or goes, or of what is sent; of offers and polls denials
+alone have lines. What is allowed once more as it was before has none. Where more was decided than is kept, `N decisions were passed
+over` stands in their place.
+
+With --json a line is an object: `moment`, `principal`, `act`, `stream`, `subject` (what it is about, by its number; or 0), `allow`,
+`policy`, `rule` (null for the default) and `name` (of the rule, or null); or `passed_over`, how many were.
+
+Status: 0; 1 after `aeron_policyd: FAULT` on standard error; 2 for a usage error.",
+};
+
 /// What `serve` is asked for.
 #[derive(Clone, Copy)]
 pub struct Doors<'a> {
@@ -274,6 +338,8 @@ pub struct Doors<'a> {
     pub policy: &'a str,
     /// The file of the principals' names, if there is one.
     pub names: Option<&'a str>,
+    /// The file of cases that each policy has to keep, if there is one.
+    pub cases: Option<&'a str>,
     /// The folder of the sockets.
     pub folder: &'a str,
     /// Words `PRINCIPAL`, `PRINCIPAL=UID`, `PRINCIPAL=UID:GID` or `PRINCIPAL=PATH`.
@@ -322,6 +388,7 @@ fn doors_in<'m, 'a>(of: &'m ArgMatches<'a>) -> Option<Doors<'m>>
     Some(Doors {
         policy,
         names: of.get_str("names"),
+        cases: of.get_str("cases"),
         folder,
         doors: of.get_strs("door").unwrap_or(&[]),
         mode,
@@ -371,6 +438,19 @@ fn order_in<'m, 'a>(of: &'m ArgMatches<'a>, order: Order) -> Option<Start<'m>>
     })
 }
 
+fn decisions_in<'m, 'a>(of: &'m ArgMatches<'a>) -> Option<Start<'m>>
+    ensures name { IfSome result (λ start. start_name start ≡ codes "decisions") }
+    ensures given { IfSome result (λ start. AreFound (found_of of.now) (start_texts start) (start_numbers start)) }
+    ensures answers { HasText (found_of of.now) (codes "driver") → is_some result ≡ true }
+{
+    Some(Start::Decisions {
+        driver: of.get_str("driver")?,
+        denied: of.get_flag("denied"),
+        follow: of.get_flag("follow"),
+        json: of.get_flag("json"),
+    })
+}
+
 /// What the words of such a subcommand ask for, once they were found to be of the form.
 pub(crate) fn serving_in<'m, 'a>(name: &str, of: &'m ArgMatches<'a>) -> Option<Start<'m>>
     ensures name { IfSome result (λ start. name.now ≡ start_name start) }
@@ -391,6 +471,9 @@ pub(crate) fn serving_in<'m, 'a>(name: &str, of: &'m ArgMatches<'a>) -> Option<S
     }
     if name == "clients" {
         return order_in(of, Order::Status);
+    }
+    if name == "decisions" {
+        return decisions_in(of);
     }
     None
 }

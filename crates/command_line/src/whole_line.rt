@@ -153,7 +153,7 @@ file, read failed, too long, write failed, no memory); 2 for a usage error.",
 };
 
 /// Every subcommand, in the order of the help.
-const FORMS: [Form; 19] = [
+const FORMS: [Form; 20] = [
     policy_words::CHECK,
     policy_words::DECIDE,
     policy_words::SHOW,
@@ -173,6 +173,7 @@ const FORMS: [Form; 19] = [
     serving_line::STOP,
     serving_line::RELOAD,
     serving_line::CLIENTS,
+    serving_line::DECISIONS,
 ];
 
 /// What the command line asks for.
