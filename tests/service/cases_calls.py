@@ -254,6 +254,13 @@ def operators(room):
         lines = room.clients()
         need(re.match(r"client \d+ of p1 for \d+ s: ", lines[0]) and len(lines) == 2, lines)
         need("in force" in room.asked("reload"), "no reload")
+        one.publication("aeron:ipc", 77)
+        found = lambda: [it for it in aeron_policyd.decisions(room.at("operator"))[0] if it.get("stream") == 77]
+        until("a decision", found)
+        same("what was decided", ("p1", "publish", True), tuple(found()[0][name] for name in ("principal", "act", "allow")))
+        taken, after = aeron_policyd.decisions(room.at("operator"))
+        same("how many", after, len(taken))
+        same("later ones", ([], after), aeron_policyd.decisions(room.at("operator"), after))
     room.asked("stop")
     same("the driver's end", 0, room.ended(room.driver))
     serve(room)

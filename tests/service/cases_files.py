@@ -28,13 +28,18 @@ def reloading(room):
     return room.start(room.program, "reload", "--driver", room.at("operator"))
 
 
+def put_at(path, make):
+    """Puts something in the place of a file."""
+    if os.path.isdir(path) and not os.path.islink(path):
+        os.rmdir(path)
+    elif os.path.lexists(path):
+        os.remove(path)
+    make(path)
+
+
 def put(room, make):
     """Puts something in the place of the policy's file."""
-    if os.path.isdir(room.policy_path) and not os.path.islink(room.policy_path):
-        os.rmdir(room.policy_path)
-    elif os.path.lexists(room.policy_path):
-        os.remove(room.policy_path)
-    make(room.policy_path)
+    put_at(room.policy_path, make)
 
 
 def of_size(size):

@@ -70,6 +70,8 @@ def case_the_page_on_running(room):
     looked = run("look.sh")
     same("a look", (0, words_of(where, "look.out"), ""), (looked[0], re.sub(r"for [0-9]+ s", "for 12 s", looked[1]), looked[2]))
     same("what is denied", (1, "", words_of(where, "denied.err")), run("denied.sh"))
+    decided = re.sub("[^ ]*", "", words_of(where, "decided.out"), count=1)
+    until("what was decided", lambda: re.sub("[^ ]*", "", run("decided.sh")[1], count=1) == decided)
     os.write(gives, b"bid 98\n")
     os.close(gives)
     same("status of the publisher that stayed", 0, room.ended(stays))

@@ -10,6 +10,7 @@ import time
 from harness import NOTHING_ASKED, TOP, TRIES, need, same, until
 from raw import (
     BYE,
+    DECISIONS,
     DONE,
     FRAGMENT,
     IMAGE_POSITIONS,
@@ -205,7 +206,7 @@ def case_what_is_no_request_is_refused_by_its_fault(room):
             ((kind, body),) = peer.ask(request)
             same(what, (REFUSED, code, words), (kind, code_of(body), words_of(body)))
 
-        for kind in (0, 13, 99, 0x101, 0x104, 0x109, 0x7FFFFFFF, 0xFFFFFFFF):
+        for kind in (0, 14, 99, 0x101, 0x104, 0x109, 0x7FFFFFFF, 0xFFFFFFFF):
             refused("kind %d" % kind, record(kind, b"fields of any length"), 6, "unknown request")
         malformed = [struct.pack("<I", size) + b"\2\0\0"[:size] for size in range(4)]
         malformed += [record(OFFER, b"\0" * size) for size in (0, 4, 15)]
@@ -216,10 +217,11 @@ def case_what_is_no_request_is_refused_by_its_fault(room):
         malformed += [record(STOP, b"\0"), record(STATUS, b"\0")]
         malformed += [record(PUBLICATION_POSITIONS, b"\0" * size) for size in (0, 7, 9)]
         malformed += [record(IMAGE_POSITIONS, b"\0" * size) for size in (0, 15, 17)]
+        malformed += [record(DECISIONS, b"\0" * size) for size in (0, 11, 13)]
         for request in malformed:
             refused("the record %s" % request.hex(), request, 7, "malformed request")
-        for kind in (7, 8, 9):
-            refused("kind %d" % kind, record(kind), 1009, "only for operators")
+        for kind, fields in ((7, b""), (8, b""), (9, b""), (DECISIONS, b"\0" * 12)):
+            refused("kind %d" % kind, record(kind, fields), 1009, "only for operators")
         # neither of these counts as a refused offer
         refused("an offer", offer(1), -4, "closed")
         refused("an offer sent too soon", offer(1), -6, "skipped after a refusal")

@@ -8,11 +8,14 @@ import struct
 import threading
 import time
 
+import scripted
 from harness import ALLOW, PATIENT, TOP, Failed, free_ports, need, said, same, soon, until
 from raw import (
+    COMMAND,
     DONE,
     FRAGMENT,
     IMAGE_IS,
+    LINE,
     PART,
     PART_REFUSED,
     PUBLICATION_IS,
@@ -29,6 +32,7 @@ from raw import (
     publication_positions,
     publish,
     publish_alone,
+    record,
     session,
     subscribe,
     text,
@@ -561,3 +565,34 @@ def case_what_another_one_wrote_is_printed_plain(room):
         (line,) = [line for line in out.split("\n") if "2000" in line]
         need(line.endswith("  a<27>[2J<10>    999       9999                     1  forged<13><127><9>"), line)
         need(not [letter for letter in out if not (" " <= letter <= "~" or letter == "\n")], repr(out))
+
+
+def case_what_a_driver_says_is_printed_plain(room):
+    words = "no\x1b[2J\r\n\u009bforged"
+    plain = "no<27>[2J<13><10><155>forged"
+    path = room.path + "/scripted.sock"
+    denied = []
+
+    def by_a_reply(kind, fields):
+        if kind == COMMAND:
+            _, _, correlation = struct.unpack_from("<IQQ", fields)
+            denied.append(struct.pack("<IQiI", 0x0F01, correlation, 1001, 5) + b"\x1b[2J\n")
+            return scripted.done()
+        return scripted.mail(*denied)
+
+    def refused(kind, fields):
+        return scripted.refused(1, words)
+
+    def lines(kind, fields):
+        return record(LINE, words.encode()) + scripted.done(1)
+
+    head = "    NUMBER       TYPE                 VALUE  LABEL\n"
+    said_so = "aeron_policyd: %s\n" % plain
+    for greeting, answer, order, wanted in (
+        (None, refused, ("stat",), (1, head, said_so)),
+        (b"", refused, ("reload",), (1, "", said_so)),
+        (b"", lines, ("clients",), (0, plain + "\n", "")),
+        (None, by_a_reply, ("publish", "aeron:udp?endpoint=127.0.0.1:40123", "10"), (1, "", "aeron_policyd: <27>[2J<10>\n")),
+    ):
+        with scripted.Scripted(path, answer, greeting):
+            same(order[0], wanted, room.call(*order, "--driver", path))

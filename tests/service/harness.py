@@ -25,7 +25,7 @@ LONGEST = 400
 TRIES = 5
 
 # The files that have cases, in their order.
-FILES = ("cases_talk", "cases_pages", "cases_terminal", "cases_python", "cases_c", "cases_records", "cases_ends", "cases_bounds", "cases_many", "cases_waits", "cases_doors", "cases_files", "cases_denials", "cases_words", "cases_revoked", "cases_gaps", "cases_calls", "cases_strangers", "cases_soak")
+FILES = ("cases_talk", "cases_pages", "cases_terminal", "cases_python", "cases_c", "cases_records", "cases_ends", "cases_bounds", "cases_many", "cases_waits", "cases_doors", "cases_files", "cases_denials", "cases_vetting", "cases_decisions", "cases_words", "cases_revoked", "cases_gaps", "cases_calls", "cases_strangers", "cases_soak")
 
 # The code and the text of what an operator is told who asks for nothing in time.
 NOTHING_ASKED = (6, "unknown request")

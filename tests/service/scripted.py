@@ -57,12 +57,14 @@ def fragment(position, flags, payload):
 class Scripted:
     """Serves at a path, until it is closed. `answer` gets the kind and the fields of each request, and gives what is sent.
 
-    `asked` has the requests so far, and `commands` the type, the correlation id and the fields of each COMMAND.
+    `greeting` is sent first, a welcome if it is not given: an operator gets none. `asked` has the requests so far, and `commands`
+    the type, the correlation id and the fields of each COMMAND.
     """
 
-    def __init__(self, path, answer):
+    def __init__(self, path, answer, greeting=None):
         self._path = path
         self._answer = answer
+        self._greeting = welcome() if greeting is None else greeting
         self.asked = []
         self.commands = []
         self._listener = socket.socket(socket.AF_UNIX, socket.SOCK_STREAM)
@@ -88,7 +90,7 @@ class Scripted:
     def _talk(self, stream):
         given = b""
         try:
-            stream.sendall(welcome())
+            stream.sendall(self._greeting)
             while True:
                 while len(given) < 8 or len(given) < 4 + struct.unpack_from("<I", given)[0]:
                     more = stream.recv(1 << 16)

@@ -53,7 +53,7 @@ from aeron_policyd.errors import (
     UsedCorrelation,
 )
 from aeron_policyd.kept import Counter, Messages, Publication, Subscription
-from aeron_policyd.operators import clients, reload, stop
+from aeron_policyd.operators import clients, decisions, reload, stop
 from aeron_policyd.values import (
     Buffer,
     Event,
@@ -114,6 +114,7 @@ __all__ = [
     "UsedCorrelation",
     "clients",
     "connect",
+    "decisions",
     "reload",
     "stop",
 ]

@@ -451,3 +451,10 @@ async def reload(path: Union[str, "os.PathLike[str]"], *, timeout: float = 30.0)
 async def clients(path: Union[str, "os.PathLike[str]"], *, timeout: float = 30.0) -> list[str]:
     """A line for each client."""
     return await _ask(partial(operators.clients, path, timeout=timeout))
+
+
+async def decisions(
+    path: Union[str, "os.PathLike[str]"], start: int = 0, *, denied: bool = False, timeout: float = 30.0
+) -> tuple[list[dict[str, Any]], int]:
+    """What the driver decided from a number on, and from which one on to ask again."""
+    return await _ask(partial(operators.decisions, path, start, denied=denied, timeout=timeout))

@@ -15,7 +15,7 @@ LONGEST_MESSAGE = LONGEST - 20
 
 # Requests.
 COMMAND, OFFER, POLL, MAIL, LIST, VALUE, STOP, RELOAD, STATUS, POLL_ALL = range(1, 11)
-PUBLICATION_POSITIONS, IMAGE_POSITIONS = 11, 12
+PUBLICATION_POSITIONS, IMAGE_POSITIONS, DECISIONS = 11, 12, 13
 
 # Answers. Those that end in IS have the name of their request in the protocol.
 WELCOME, REPLY, TAKEN, REFUSED, FRAGMENT, DONE, ROW, VALUE_IS, BYE, LINE, PART, PART_REFUSED = range(0x101, 0x10D)
@@ -41,6 +41,7 @@ _PAIR = struct.Struct("<QQ")
 _MAIL = struct.Struct("<III")
 _VALUE = struct.Struct("<IIQ")
 _IMAGE = struct.Struct("<IIQQ")
+_DECISIONS = struct.Struct("<IIQI")
 
 SIZE = struct.Struct("<I")
 WELCOME_FIELDS = struct.Struct("<IIQQ")
@@ -60,6 +61,11 @@ IMAGE_FIELDS = struct.Struct("<QQQ")
 def bare(kind: int) -> bytes:
     """A request without fields."""
     return _HEAD.pack(4, kind)
+
+
+def decisions(number: int, choice: int) -> bytes:
+    """DECISIONS from that number on. 1 in `choice` wants denials alone, and 2 lines as JSON."""
+    return _DECISIONS.pack(16, DECISIONS, number, choice)
 
 
 def command(tail: bytes) -> bytes:

@@ -1,0 +1,1 @@
+aeron_policyd decisions --driver /run/aeron_policyd/operator.sock --denied
