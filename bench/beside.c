@@ -6,13 +6,16 @@
  *   beside udp BYTES COUNT         datagrams over loopback from one process to another, in a loop of `sendto` and one of
  *                                  `recvfrom`: nanoseconds until COUNT of them came; what was lost is sent again
  * What is between them, and what they take:
- *   beside relay PORT TO PERCENT   hands datagrams that come to a port of loopback on to the port TO, and those from there back
- *                                  to where the last other one came from; loses so many of 100, the same ones each time
+ *   beside relay PORT TO PERCENT [MILLISECONDS]
+ *                                  hands datagrams that come to a port of loopback on to the port TO, and those from there back
+ *                                  to where the last other one came from, so many milliseconds later; loses so many of 100, the
+ *                                  same ones each time
  *   beside cost COMMAND ..         what the command prints, and in the same line the nanoseconds of processor time that it and
  *                                  its children took, and how often they left the processor
  * Built with -DZMQ where libzmq is there. */
 #define _GNU_SOURCE
 #include <arpa/inet.h>
+#include <poll.h>
 #include <pthread.h>
 #include <signal.h>
 #include <stdint.h>
@@ -176,15 +179,39 @@ static struct sockaddr_in here(const char *port) {
     return at;
 }
 
-static void relay(const char *port, const char *port_to, long percent) {
+/* A datagram that a relay hands on at that moment. */
+struct later {
+    uint64_t due;
+    struct sockaddr_in to;
+    size_t length;
+    unsigned char *bytes;
+};
+
+/* How many datagrams are on their way in a relay at most: more are lost. */
+#define LATER 65536
+
+static void relay(const char *port, const char *port_to, long percent, long milliseconds) {
+    static struct later queue[LATER];
     struct sockaddr_in at = here(port), to = here(port_to), back = {0}, from;
     int room = 4194304, door = socket(AF_INET, SOCK_DGRAM, 0);
-    uint64_t drawn = 1;
+    uint64_t drawn = 1, first = 0, last = 0, delay = (uint64_t)milliseconds * 1000000u;
     if (door < 0 || bind(door, (struct sockaddr *)&at, sizeof at) != 0) fail("socket");
     setsockopt(door, SOL_SOCKET, SO_RCVBUF, &room, sizeof room);
     for (;;) {
+        struct pollfd waited = {.fd = door, .events = POLLIN};
+        struct timespec left = {0};
         socklen_t length = sizeof from;
-        ssize_t came = recvfrom(door, taken, sizeof taken, 0, (struct sockaddr *)&from, &length);
+        for (; first != last && queue[first % LATER].due <= now(); first++) {
+            struct later *it = &queue[first % LATER];
+            sendto(door, it->bytes, it->length, 0, (struct sockaddr *)&it->to, sizeof it->to);
+            free(it->bytes);
+        }
+        if (first != last) {
+            uint64_t moment = now(), due = queue[first % LATER].due;
+            left.tv_nsec = due > moment ? (long)(due - moment) % 1000000000 : 0;
+        }
+        if (ppoll(&waited, 1, first == last ? NULL : &left, NULL) <= 0) continue;
+        ssize_t came = recvfrom(door, taken, sizeof taken, MSG_DONTWAIT, (struct sockaddr *)&from, &length);
         struct sockaddr_in *next = &to;
         if (came < 0) continue;
         if (from.sin_port == to.sin_port)
@@ -192,7 +219,15 @@ static void relay(const char *port, const char *port_to, long percent) {
         else
             back = from;
         drawn = drawn * 6364136223846793005u + 1442695040888963407u;
-        if ((long)((drawn >> 33) % 100) >= percent) sendto(door, taken, (size_t)came, 0, (struct sockaddr *)next, sizeof *next);
+        if ((long)((drawn >> 33) % 100) < percent) continue;
+        if (delay == 0) {
+            sendto(door, taken, (size_t)came, 0, (struct sockaddr *)next, sizeof *next);
+        } else if (last - first < LATER) {
+            struct later it = {.due = now() + delay, .to = *next, .length = (size_t)came, .bytes = malloc((size_t)came + 1)};
+            if (!it.bytes) fail("malloc");
+            memcpy(it.bytes, taken, (size_t)came);
+            queue[last++ % LATER] = it;
+        }
     }
 }
 
@@ -225,7 +260,8 @@ static int cost(char **command) {
 
 int main(int argc, char **argv) {
     if (argc > 2 && strcmp(argv[1], "cost") == 0) return cost(argv + 2);
-    if (argc == 5 && strcmp(argv[1], "relay") == 0) relay(argv[2], argv[3], strtol(argv[4], NULL, 10));
+    if ((argc == 5 || argc == 6) && strcmp(argv[1], "relay") == 0)
+        relay(argv[2], argv[3], strtol(argv[4], NULL, 10), argc == 6 ? strtol(argv[5], NULL, 10) : 0);
     if (argc == 4 || argc == 5) {
         bytes = strtoul(argv[2], NULL, 10);
         count = strtol(argv[3], NULL, 10);
@@ -240,6 +276,6 @@ int main(int argc, char **argv) {
         if (strcmp(argv[1], "zmq-trip") == 0) return zmq(1);
 #endif
     }
-    fprintf(stderr, "usage: beside copies|udp|zmq|zmq-trip BYTES COUNT, zmq-each BYTES COUNT N, relay PORT TO PERCENT or cost COMMAND ..\n");
+    fprintf(stderr, "usage: beside copies|udp|zmq|zmq-trip BYTES COUNT, zmq-each BYTES COUNT N, relay PORT TO PERCENT [MILLISECONDS] or cost COMMAND ..\n");
     return 2;
 }

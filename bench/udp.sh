@@ -1,7 +1,8 @@
 #!/bin/sh
 # Times two drivers over loopback: `bench/udp.sh [PROGRAM]`, where PROGRAM is aeron_policyd; without one it is what `make build`
 # leaves. A publisher's process sends messages of 1,376 and of 64 bytes to a subscriber's, beside a loop of `sendto` and one of
-# `recvfrom` with datagrams of the same length; and then through a relay that loses 1 and 10 of 100 datagrams of either side.
+# `recvfrom` with datagrams of the same length; and then through a relay that loses 1 and 10 of 100 datagrams of either side, and
+# hands the others on DELAY milliseconds later, at once if it says nothing.
 # RUNS says how often each is run, seven times if it says nothing. Each run is made with few messages and with many, and what the
 # few took is taken off: the start of two drivers, and the half second for which a subscriber stays at its end, are left out.
 SETTINGS=${SETTINGS:-}
@@ -55,7 +56,7 @@ done
 # for links that lose
 soon='--setting nak-delay=200us --setting nak-repeat=2ms --setting resend-linger=2ms --setting status-interval=10ms --setting heartbeat-interval=10ms'
 for percent in 0 1 10; do
-    "$out/beside" relay 40124 40123 "$percent" &
+    "$out/beside" relay 40124 40123 "$percent" "${DELAY:-0}" &
     relay=$!
     export SETTINGS=
     if [ "$percent" -eq 10 ]; then many=2100; else many=20100; fi
