@@ -12,6 +12,11 @@ abbrev pub with_pages : Bool → Settings → Settings
 with_pages true settings = settings
 with_pages false settings = record settings { arena_pages = 16384 }
 
+-- a gap is asked for after 200 microseconds
+abbrev pub with_delay : Bool → Settings → Settings
+with_delay true settings = settings
+with_delay false settings = record settings { nak_delay = 200000 }
+
 -- a gap is asked for again after 10 milliseconds
 abbrev pub with_repeat : Bool → Settings → Settings
 with_repeat true settings = settings
@@ -22,7 +27,7 @@ abbrev pub with_linger : Bool → Settings → Settings
 with_linger true settings = settings
 with_linger false settings = record settings { resend_linger = 9000000 }
 
--- a subscriber says every 50 milliseconds how far it has come
+-- a subscriber says every 20 milliseconds how far it has come
 abbrev pub with_interval : Bool → Settings → Settings
 with_interval true settings = settings
-with_interval false settings = record settings { status_interval = 50000000 }
+with_interval false settings = record settings { status_interval = 20000000 }

@@ -24,8 +24,8 @@ use crate::station::Chores;
 use crate::strangers::{self, Bound, GREATEST, bound_by, window_on};
 use crate::subscribing::Subscribing;
 use crate::usual::{
-    lingering_settings, publishing_settings, repeating_settings, reporting_settings,
-    subscribing_settings,
+    asking_settings, lingering_settings, publishing_settings, repeating_settings,
+    reporting_settings, subscribing_settings,
 };
 use crate::vetting::keep;
 use channel_uri::Address;
@@ -73,6 +73,7 @@ fn recovering<R: Machine>(rt: &R, words: &[&str]) -> Result<Settings, Fault>
     ensures { IfOk result (λ settings. AreSettings settings) }
 {
     let settings = settings_of(rt, words)?;
+    let settings = asking_settings(chooses(words, "nak-delay"), settings);
     let settings = repeating_settings(chooses(words, "nak-repeat"), settings);
     Ok(lingering_settings(chooses(words, "resend-linger"), settings))
 }

@@ -1,6 +1,6 @@
 //! What a driver of `publish`, `subscribe` or `serve` begins with where no word chooses it.
 
-ghost use Rattle.aeron_policyd.specs.Usual.{with_interval, with_linger, with_pages, with_repeat, with_terms};
+ghost use Rattle.aeron_policyd.specs.Usual.{with_delay, with_interval, with_linger, with_pages, with_repeat, with_terms};
 ghost use Rattle.driver_core.specs.Soundness.{AreSettings};
 ghost use Rattle.std.specs.Prelude.{◌≡◌};
 
@@ -12,6 +12,9 @@ const TERM: u32 = 1_048_576;
 /// How many pages the logs of a subscriber share: those of 21 publishers that begin so.
 const PAGES: u32 = 16_384;
 
+/// How long a gap stands before it is asked for, in nanoseconds: datagrams that overtake each other are rarely further apart.
+const DELAY: u64 = 200_000;
+
 /// How long until a gap is asked for again, in nanoseconds: a lost request, or a lost retransmission, holds a stream up for so long.
 const REPEAT: u64 = 10_000_000;
 
@@ -20,7 +23,22 @@ const REPEAT: u64 = 10_000_000;
 const LINGER: u64 = 9_000_000;
 
 /// How long it takes at most until a subscriber says how far it has come, in nanoseconds: a lost report holds a stream up for so long.
-const INTERVAL: u64 = 50_000_000;
+const INTERVAL: u64 = 20_000_000;
+
+/// Those of each driver. `chosen` says whether a word chooses how long a gap stands before it is asked for.
+pub(crate) fn asking_settings(chosen: bool, settings: Settings) -> Settings
+    requires { AreSettings settings }
+    ensures sound { AreSettings result }
+    ensures delay { result ≡ with_delay chosen settings }
+{
+    if chosen {
+        return settings;
+    }
+    Settings {
+        nak_delay: DELAY,
+        ..settings
+    }
+}
 
 /// Those of each driver. `chosen` says whether a word chooses how long until a gap is asked for again.
 pub(crate) fn repeating_settings(chosen: bool, settings: Settings) -> Settings

@@ -387,11 +387,11 @@ in k, m or g of 1,024, 1,024^2 and 1,024^3 bytes. In an address `localhost` is 1
   connection-timeout    how long a status message keeps a publication connected; above 0; 5s
   destination-timeout   how long one keeps a subscriber that was learnt; above 0; 5s
   resend-linger         how long a range that was resent is not resent again; 9ms
-  nak-delay             how long a gap stands before it is asked for; 1ms
+  nak-delay             how long a gap stands before it is asked for; 200us
   nak-repeat            how long until it is asked for again; above 0; 10ms
   setup-interval        from one SETUP to the next; above 0; 100ms
   heartbeat-interval    how long a sender is silent before a heartbeat; above 0; 100ms
-  status-interval       from one status message to the next; above 0; 200ms, with subscribe 50ms
+  status-interval       from one status message to the next; above 0; 200ms, with subscribe 20ms
   term-length           a power of two from 64k to 16m, where a channel names none; 1m, with serve 64k
   mtu                   a multiple of 32 from 64 to 65504, where a channel names none; 1408
   arena-pages           how many pages of 4 KiB all logs share, 1 to 65536; 4096, with subscribe 16384
