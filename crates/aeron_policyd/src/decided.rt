@@ -1,8 +1,8 @@
 //! What was decided lately, for operators who ask: the last decisions, and apart from them the last denials.
 
-ghost use Rattle.aeron_policyd.specs.Decided.{IsPage};
+ghost use Rattle.aeron_policyd.specs.Decided.{IsPage, next_of};
 ghost use Rattle.aeron_policyd.specs.declared.decided.Taken.{Taken};
-ghost use Rattle.std.specs.Prelude.{◌≡◌, IfOk, List, length, min, take};
+ghost use Rattle.std.specs.Prelude.{◌≡◌, ◌+◌, IfOk, List, length, min, take};
 
 use crate::audited::is_repeated;
 use crate::book::Books;
@@ -69,7 +69,8 @@ fn front_of(came: &[Taken]) -> &[Taken]
 
 /// The page from a number on, of decisions that are kept after so many others.
 fn page_of(dropped: u64, kept: &[Taken], from: u64) -> Page<'_>
-    ensures { (before : List Taken) → length before ≡ dropped → IsPage before kept.now from result.came.now result.passed }
+    ensures page { (before : List Taken) → length before ≡ dropped → IsPage before kept.now from result.came.now result.passed }
+    ensures next { result.next ≡ next_of from result.passed (length result.came.now) (dropped + length kept.now) }
 {
     let mut mark = Mark { seen: from };
     let Fresh { came, passed } = mark.look(dropped, kept);
